@@ -1,0 +1,2 @@
+-- What is proved of the rulebook. `Squares`: the settled squares.
+pub mod Squares

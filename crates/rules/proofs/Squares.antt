@@ -1,0 +1,117 @@
+-- "Settled squares": A to H, computed from the lanes on. Assumes nothing.
+use mathlib.Core.Path.{_≡_, refl}
+use mathlib.Core.Bool.{Bool, true, false}
+use mathlib.Core.List.{List, [], _∷_, map}
+use Prim.Native.Nat.{ℕ}
+use lib.ListN.{length, replicate}
+use lib.Ieee.{Float, nan, binary32, ofBits, toBits, add, sub, mul, div, lt, le, eq}
+use Rattle.rules.specs.Loops.{turns, through, each, firstFrom, anyOf, has, part, putPart, over}
+use Rattle.rules.specs.Numbers.{outside}
+use Rattle.rules.specs.Distance.{lane, totalOf, fit, answer, distanceOf, unfit, carried, lanesOf, nodesApart, queryApart, between, before, zero32}
+use Rattle.rules.specs.Lists.{insert, insertAll, sort, least, nodesOf, bitsOf}
+use Rattle.rules.specs.Refusals.{noRefusal, decide, row1, row2, row3, row4, row6, row7, row8, badRoot, firstBadRoot}
+use Rattle.rules.specs.Calls.{BuildSizes, searchRows}
+use Rattle.rules.specs.Rows.{liveNodes, graphRow, isEmpty, live, finished}
+use Rattle.rules.specs.Build.{Between, entry, others, exactList, taking, hop, twoHops, candidates, cosine, occludes, keep, choose, rowOf, pruned, prunedSlots, markNext, rewritten, atFull, offered, linkBack, link, linkedSlots, graphFrom, graphOf}
+use Rattle.rules.specs.Search.{andThen, worksOut, rootsFound, mark, isSeen, started, visit, visits, farthest, joins, takeThese, rowEnded, expand, walk, searchOf}
+use Rattle.rules.specs.SearchCall.{SearchLent, SearchOutcome, SearchSaid, searchTable, searchZeroed, searchEnds, searchWork, searchObeys, searchRule}
+
+-- 0.0, 1.0, 2.0, 3.0, 7.0 and 0.5
+abbrev f0 : Float
+f0 = ofBits binary32 0
+
+abbrev f1 : Float
+f1 = ofBits binary32 0x3F800000
+
+abbrev f2 : Float
+f2 = ofBits binary32 0x40000000
+
+abbrev f3 : Float
+f3 = ofBits binary32 0x40400000
+
+abbrev f7 : Float
+f7 = ofBits binary32 0x40E00000
+
+abbrev half : Float
+half = ofBits binary32 0x3F000000
+
+-- "Lanes 0, 1, 3, 7; dimension 1"
+abbrev lanes : List Float
+lanes = f0 ∷ f1 ∷ f3 ∷ f7 ∷ []
+
+abbrev d : Between
+d = between lanes 1
+
+-- "`init_k` 2; `index_size` 2; `neighbor_neighbor_size` 10; threshold 0.5", and with another `index_size`
+abbrev sized : ℕ → BuildSizes
+sized index-size = record { init-k = 2; index-size = index-size; neighbor-neighbor-size = 10; threshold = half }
+
+abbrev graphC : List ℕ
+graphC = 1 ∷ 2 ∷ 0 ∷ 2 ∷ 1 ∷ 2 ∷ 2 ∷ 4 ∷ []
+
+-- a search on C's graph, with two places for results that hold 9
+abbrev asked : List ℕ → ℕ → Float → SearchOutcome
+asked roots k query =
+    searchRule
+    (record {
+      dimension = 1;
+      n = 4;
+      lanes = lanes;
+      graph = graphC;
+      index-size = 2;
+      roots = roots;
+      query = query ∷ [];
+      k = k;
+      result-nodes = 9 ∷ 9 ∷ [];
+      result-bits = 9 ∷ 9 ∷ [];
+      scratch-u = replicate 1040 0;
+      scratch-f = replicate 1040 f0;
+    })
+
+-- m, the takings, the result slices
+abbrev gives : SearchOutcome → ℕ → ℕ → List ℕ → List ℕ → Type 0
+gives o m takings nodes bits =
+    (o .said ≡ record { code = noRefusal; m = m; takings = takings }) × (o .result-nodes ≡ nodes) × (o .result-bits ≡ bits)
+
+abbrev b0 : ℕ
+b0 = 0
+
+abbrev b1 : ℕ
+b1 = 0x3F800000
+
+abbrev b16 : ℕ
+b16 = 0x41800000
+
+pub record Settled : Type 0 where
+  -- "A: exact lists 2,1 / 2,0 / 0,1 / 1,2."
+  pub a : map (exactList d 4 2) (0 ∷ 1 ∷ 2 ∷ 3 ∷ []) ≡ (2 ∷ 1 ∷ []) ∷ (2 ∷ 0 ∷ []) ∷ (0 ∷ 1 ∷ []) ∷ (1 ∷ 2 ∷ []) ∷ []
+  -- "B: after step 4: 1,4 / 0,2 / 1,4 / 2,4."
+  pub b : nodesOf (prunedSlots d 4 (sized 2)) ≡ 1 ∷ 4 ∷ 0 ∷ 2 ∷ 1 ∷ 4 ∷ 2 ∷ 4 ∷ []
+  -- "C: graph 1,2 / 0,2 / 1,2 / 2,4. With `index_size` 3: 1,4,4 / 0,2,4 / 1,4,4 / 2,4,4."
+  pub c : graphOf d 4 (sized 2) ≡ graphC
+  pub c3 : graphOf d 4 (sized 3) ≡ 1 ∷ 4 ∷ 4 ∷ 0 ∷ 2 ∷ 4 ∷ 1 ∷ 4 ∷ 4 ∷ 2 ∷ 4 ∷ 4 ∷ []
+  -- "D: on C, root 0, query 7, k 2: node 2 at 16, m 1, 2 expanded."
+  pub d : gives (asked (0 ∷ []) 2 f7) 1 2 (2 ∷ 9 ∷ []) (b16 ∷ 9 ∷ [])
+  -- "E: roots 0,3, k 2, query 7: 3 at 0, 2 at 16; 3 expanded."
+  pub e : gives (asked (0 ∷ 3 ∷ []) 2 f7) 2 3 (3 ∷ 2 ∷ []) (b0 ∷ b16 ∷ [])
+  -- "F: roots 0,3, k 1, query 7: 3 at 0; 1 expanded."
+  pub f : gives (asked (0 ∷ 3 ∷ []) 1 f7) 1 1 (3 ∷ 9 ∷ []) (b0 ∷ 9 ∷ [])
+  -- "G: root 1, k 1, query 2: node 2 at 1 replaces node 1 at 1; 2 expanded."
+  pub g : gives (asked (1 ∷ []) 1 f2) 1 2 (2 ∷ 9 ∷ []) (b1 ∷ 9 ∷ [])
+  -- "H: two equal points, dp = dr = djk = 0: no occlusion."
+  pub h : occludes (between (f0 ∷ f0 ∷ f0 ∷ []) 1) half false (entry (between (f0 ∷ f0 ∷ f0 ∷ []) 1) 0 1) (entry (between (f0 ∷ f0 ∷ f0 ∷ []) 1) 0 2) ≡ false
+
+pub settled : Settled
+unfolding turns through each firstFrom anyOf has part putPart over outside lane totalOf fit answer distanceOf unfit carried lanesOf nodesApart queryApart between before insert insertAll sort least nodesOf bitsOf decide row1 row2 row3 row4 row6 row7 row8 badRoot firstBadRoot searchRows liveNodes graphRow isEmpty live finished others exactList taking hop twoHops candidates cosine occludes keep choose rowOf pruned prunedSlots markNext rewritten atFull offered linkBack link linkedSlots graphFrom graphOf andThen worksOut rootsFound mark isSeen started visit visits farthest joins takeThese rowEnded expand walk searchOf searchTable searchZeroed searchEnds searchWork searchObeys searchRule ofBits toBits add sub mul div lt le eq
+settled =
+    record {
+      a = refl;
+      b = refl;
+      c = refl;
+      c3 = refl;
+      d = (refl, refl, refl);
+      e = (refl, refl, refl);
+      f = (refl, refl, refl);
+      g = (refl, refl, refl);
+      h = refl;
+    }
