@@ -1,0 +1,2 @@
+-- `Laws`: a slice written from the front.
+pub mod Laws

@@ -1,0 +1,54 @@
+-- `buffers::zero_floats` meets its contract: the first `i` places are zero. Assumes nothing.
+use Prim.Native.Nat.{ℕ, _+_, _-_, _≤_, _<_}
+use native.Mathlib.Omega.{arith}
+use lib.ListN.{length, replicate}
+use Rattle.rules.specs.Distance.{zero32}
+use Rattle.buffers.proofs.Laws.{Written, written-none, filled-more, filled-end}
+use borrow.Author.Needs.{needs}
+use Rattle.buffers.proofs.zero_floats.Statement.{statement}
+use Rattle.buffers.proofs.zero_floats.Tie as tie
+
+abbrev Inv-loop : tie.InvT-loop
+Inv-loop xs₀ i₀ xs i = Written (replicate (length xs₀) zero32) xs₀ xs i
+
+abbrev μ-loop : tie.MeasureT-loop
+μ-loop xs₀ i₀ xs i = length xs₀ - i
+
+loop-holds : tie.Need-loop-holds Inv-loop μ-loop
+loop-holds c = written-none _ _
+
+mul-xs : tie.Need-mul-xs Inv-loop μ-loop
+mul-xs c = let long = c .before .loop .inv .long in search needs
+
+slice-write-xs : tie.Need-slice-write-xs Inv-loop μ-loop
+slice-write-xs c = let long = c .before .loop .inv .long in omega arith
+
+add-i : tie.Need-add-i Inv-loop μ-loop
+add-i c = search needs
+
+loop-less : tie.Need-loop-less Inv-loop μ-loop
+loop-less c = let long = c .before .loop .inv .long in omega arith
+
+loop-again : tie.Need-loop-again Inv-loop μ-loop
+loop-again c = let long = c .before .loop .inv .long in filled-more zero32 (c .before .loop .inv) (omega arith)
+
+same-length : tie.Need-same-length Inv-loop μ-loop
+same-length c = c .before .loop .inv .long
+
+returns : tie.Need-returns Inv-loop μ-loop
+returns c = let long = c .before .loop .inv .long in filled-end zero32 (c .before .loop .inv) (omega arith)
+
+pub zero-floats-spec : {M : Type 1} → statement M
+zero-floats-spec =
+    tie.close
+    (tie.spec
+    Inv-loop
+    μ-loop
+    loop-holds
+    mul-xs
+    slice-write-xs
+    add-i
+    loop-less
+    loop-again
+    same-length
+    returns)
