@@ -10,3 +10,11 @@ pub mod Build
 pub mod Search
 pub mod BuildCall
 pub mod SearchCall
+pub mod Offers
+pub mod Descent
+pub mod Relay
+pub mod Places
+pub mod DescentPlaces
+pub mod RelayPlaces
+pub mod DescentCall
+pub mod RelayCall
