@@ -1,46 +1,23 @@
--- "Settled squares": A to H, computed from the lanes on. Assumes nothing.
-use mathlib.Core.Path.{_≡_, refl}
+-- "Settled squares": A to I, computed from the lanes on. Assumes nothing.
+use mathlib.Core.Path.{_≡_, refl, ap}
 use mathlib.Core.Bool.{Bool, true, false}
 use mathlib.Core.List.{List, [], _∷_, map}
 use Prim.Native.Nat.{ℕ}
-use lib.ListN.{length, replicate}
+use lib.ListN.{length, take, drop, replicate}
 use lib.Ieee.{Float, nan, binary32, ofBits, toBits, add, sub, mul, div, lt, le, eq}
+use Rattle.rules.specs.declared.Neighbor.{Neighbor}
 use Rattle.rules.specs.Loops.{turns, through, each, firstFrom, anyOf, has, part, putPart, over}
 use Rattle.rules.specs.Numbers.{outside}
 use Rattle.rules.specs.Distance.{lane, totalOf, fit, answer, distanceOf, unfit, carried, lanesOf, nodesApart, queryApart, between, before, zero32}
-use Rattle.rules.specs.Lists.{insert, insertAll, sort, least, nodesOf, bitsOf}
+use Rattle.rules.specs.Lists.{neighbor, insert, insertAll, sort, least, nodesOf, bitsOf}
 use Rattle.rules.specs.Refusals.{noRefusal, decide, row1, row2, row3, row4, row6, row7, row8, badRoot, firstBadRoot}
 use Rattle.rules.specs.Calls.{BuildSizes, searchRows}
 use Rattle.rules.specs.Rows.{liveNodes, graphRow, isEmpty, live, finished}
 use Rattle.rules.specs.Build.{Between, entry, others, exactList, taking, hop, twoHops, candidates, cosine, occludes, keep, choose, rowOf, pruned, prunedSlots, markNext, rewritten, atFull, offered, linkBack, link, linkedSlots, graphFrom, graphOf}
 use Rattle.rules.specs.Search.{andThen, worksOut, rootsFound, mark, isSeen, started, visit, visits, farthest, joins, takeThese, rowEnded, expand, walk, searchOf}
 use Rattle.rules.specs.SearchCall.{SearchLent, SearchOutcome, SearchSaid, searchTable, searchZeroed, searchEnds, searchWork, searchObeys, searchRule}
-
--- 0.0, 1.0, 2.0, 3.0, 7.0 and 0.5
-abbrev f0 : Float
-f0 = ofBits binary32 0
-
-abbrev f1 : Float
-f1 = ofBits binary32 0x3F800000
-
-abbrev f2 : Float
-f2 = ofBits binary32 0x40000000
-
-abbrev f3 : Float
-f3 = ofBits binary32 0x40400000
-
-abbrev f7 : Float
-f7 = ofBits binary32 0x40E00000
-
-abbrev half : Float
-half = ofBits binary32 0x3F000000
-
--- "Lanes 0, 1, 3, 7; dimension 1"
-abbrev lanes : List Float
-lanes = f0 ∷ f1 ∷ f3 ∷ f7 ∷ []
-
-abbrev d : Between
-d = between lanes 1
+use Rattle.rules.specs.Descent.{listAt}
+use Rattle.rules.proofs.SquareI.{f0, f1, f2, f7, f9, f49, half, lanes, d, listsI, ends}
 
 -- "`init_k` 2; `index_size` 2; `neighbor_neighbor_size` 10; threshold 0.5", and with another `index_size`
 abbrev sized : ℕ → BuildSizes
@@ -100,6 +77,9 @@ pub record Settled : Type 0 where
   pub g : gives (asked (1 ∷ []) 1 f2) 1 2 (2 ∷ 9 ∷ []) (b1 ∷ 9 ∷ [])
   -- "H: two equal points, dp = dr = djk = 0: no occlusion."
   pub h : occludes (between (f0 ∷ f0 ∷ f0 ∷ []) 1) half false (entry (between (f0 ∷ f0 ∷ f0 ∷ []) 1) 0 1) (entry (between (f0 ∷ f0 ∷ f0 ∷ []) 1) 0 2) ≡ false
+  -- "I: .. list 0 is 1 at 1, 2 at 9; lists 1, 2, 3 begin with 0 at 1, 9, 49."
+  pub i : listAt listsI 0 ≡ neighbor 1 f1 ∷ neighbor 2 f9 ∷ []
+  pub i-begin : map (take 1) (drop 1 listsI) ≡ (neighbor 0 f1 ∷ []) ∷ (neighbor 0 f9 ∷ []) ∷ (neighbor 0 f49 ∷ []) ∷ []
 
 pub settled : Settled
 unfolding turns through each firstFrom anyOf has part putPart over outside lane totalOf fit answer distanceOf unfit carried lanesOf nodesApart queryApart between before insert insertAll sort least nodesOf bitsOf decide row1 row2 row3 row4 row6 row7 row8 badRoot firstBadRoot searchRows liveNodes graphRow isEmpty live finished others exactList taking hop twoHops candidates cosine occludes keep choose rowOf pruned prunedSlots markNext rewritten atFull offered linkBack link linkedSlots graphFrom graphOf andThen worksOut rootsFound mark isSeen started visit visits farthest joins takeThese rowEnded expand walk searchOf searchTable searchZeroed searchEnds searchWork searchObeys searchRule ofBits toBits add sub mul div lt le eq
@@ -114,4 +94,6 @@ settled =
       f = (refl, refl, refl);
       g = (refl, refl, refl);
       h = refl;
+      i = ap (λ (ls : List (List Neighbor)). listAt ls 0) ends;
+      i-begin = ap (λ (ls : List (List Neighbor)). map (take 1) (drop 1 ls)) ends;
     }
