@@ -1,4 +1,5 @@
--- `Loops`: loops in general. `Laws`: of `insert`, `sort` and `least`. `Slices`: of a list in two slices, and what each function does to it.
+-- `Loops`: loops in general. `Perm`: rearranged lists. `Laws`: of `insert`, `sort` and `least`. `Slices`: of a list in two slices.
 pub mod Loops
+pub mod Perm
 pub mod Laws
 pub mod Slices

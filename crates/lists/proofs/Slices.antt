@@ -2,7 +2,7 @@
 use mathlib.Core.Path.{_≡_, refl, sym, ap, _∙_}
 use mathlib.Core.Bool.{Bool, true, false}
 use mathlib.Core.List.{List, [], _∷_, _++_}
-use Prim.Native.Nat.{ℕ, zero, suc, _+_, _-_, _≤_, _<_, zero-le, min}
+use Prim.Native.Nat.{ℕ, zero, suc, _+_, _-_, _≤_, _<_, zero-le, suc-le-suc, min}
 use native.Mathlib.Nat.{le-of-suc-le-suc, not-suc-le-zero, suc-add, add-suc, add-zero}
 use native.Mathlib.Numerals.{add-one, sub-one}
 use native.Mathlib.Omega.{arith}
@@ -12,7 +12,9 @@ use lib.Ieee.{Float}
 use Rattle.rules.specs.declared.Neighbor.{Neighbor}
 use Rattle.rules.specs.Loops.{through}
 use Rattle.rules.specs.Distance.{before, zero32}
-use Rattle.rules.specs.Lists.{neighbor, nodeOf, entries, insert, place, insertAll, sort}
+use Rattle.rules.specs.Lists.{neighbor, nodeOf, nodesOf, distancesOf, entries, insert, place, insertAll, sort}
+use Rattle.neighbor.specs.Holdable.{Holdable}
+use Rattle.lists.specs.Ascending.{AllHoldable}
 use Rattle.lists.specs.Lists.{hole, PlaceFound, PushedCut, Pushed, Popped, SortedIn}
 use Rattle.lists.proofs.Laws.{place-here, place-later, place-nil, insert-place, length-insert, put-cut, take-min, take-before}
 
@@ -66,6 +68,52 @@ take-entries (suc m) zero ns ds h = absurd (not-suc-le-zero h)
 take-entries (suc m) (suc n) [] ds h = refl
 take-entries (suc m) (suc n) (a ∷ ns) [] h = refl
 take-entries (suc m) (suc n) (a ∷ ns) (d ∷ ds) h = ap (λ (l : List Neighbor). neighbor a d ∷ l) (take-entries m n ns ds (le-of-suc-le-suc h))
+
+pub entries-suc : (n : ℕ) (ns : List ℕ) (ds : List Float) (a : ℕ) (d : Float) → n < length ns → n < length ds
+    → entries (suc n) ns ds ≡ entries n ns ds ++ (neighbor (getD ns n a) (getD ds n d) ∷ [])
+unfolding entries
+entries-suc n [] ds a d h k = absurd (not-suc-le-zero h)
+entries-suc n (x ∷ ns) [] a d h k = absurd (not-suc-le-zero k)
+entries-suc zero (x ∷ ns) (y ∷ ds) a d h k = refl
+entries-suc (suc n) (x ∷ ns) (y ∷ ds) a d h k =
+    ap (λ (l : List Neighbor). neighbor x y ∷ l) (entries-suc n ns ds a d (le-of-suc-le-suc h) (le-of-suc-le-suc k))
+
+pub getD-entries : (n i : ℕ) (ns : List ℕ) (ds : List Float) (a : ℕ) (d : Float) (z : Neighbor) → i < n → n ≤ length ns → n ≤ length ds
+    → getD (entries n ns ds) i z ≡ neighbor (getD ns i a) (getD ds i d)
+unfolding entries
+getD-entries zero i ns ds a d z l h k = absurd (not-suc-le-zero l)
+getD-entries (suc n) i [] ds a d z l h k = absurd (not-suc-le-zero h)
+getD-entries (suc n) i (x ∷ ns) [] a d z l h k = absurd (not-suc-le-zero k)
+getD-entries (suc n) zero (x ∷ ns) (y ∷ ds) a d z l h k = refl
+getD-entries (suc n) (suc i) (x ∷ ns) (y ∷ ds) a d z l h k =
+    getD-entries n i ns ds a d z (le-of-suc-le-suc l) (le-of-suc-le-suc h) (le-of-suc-le-suc k)
+
+-- the slices of the entries, and back
+pub nodesOf-entries : (n : ℕ) (ns : List ℕ) (ds : List Float) → n ≤ length ds → nodesOf (entries n ns ds) ≡ take n ns
+unfolding entries nodesOf
+nodesOf-entries zero ns ds h = refl
+nodesOf-entries (suc n) [] ds h = refl
+nodesOf-entries (suc n) (x ∷ ns) [] h = absurd (not-suc-le-zero h)
+nodesOf-entries (suc n) (x ∷ ns) (y ∷ ds) h = ap (λ (l : List ℕ). x ∷ l) (nodesOf-entries n ns ds (le-of-suc-le-suc h))
+
+pub distancesOf-entries : (n : ℕ) (ns : List ℕ) (ds : List Float) → n ≤ length ns → distancesOf (entries n ns ds) ≡ take n ds
+unfolding entries distancesOf
+distancesOf-entries zero ns ds h = refl
+distancesOf-entries (suc n) [] ds h = absurd (not-suc-le-zero h)
+distancesOf-entries (suc n) (x ∷ ns) [] h = refl
+distancesOf-entries (suc n) (x ∷ ns) (y ∷ ds) h = ap (λ (l : List Float). y ∷ l) (distancesOf-entries n ns ds (le-of-suc-le-suc h))
+
+pub entries-of : (es : List Neighbor) → entries (length es) (nodesOf es) (distancesOf es) ≡ es
+unfolding entries nodesOf distancesOf
+entries-of [] = refl
+entries-of (e ∷ es) = ap (λ (l : List Neighbor). e ∷ l) (entries-of es)
+
+pub holdable-entries : (n : ℕ) (ns : List ℕ) (ds : List Float) (d : Float) → ((i : ℕ) → i < n → Holdable (getD ds i d)) → AllHoldable (entries n ns ds)
+unfolding entries
+holdable-entries zero ns ds d h = tt
+holdable-entries (suc n) [] ds d h = tt
+holdable-entries (suc n) (x ∷ ns) [] d h = tt
+holdable-entries (suc n) (x ∷ ns) (y ∷ ds) d h = (h 0 (suc-le-suc zero-le), holdable-entries n ns ds d (λ (i : ℕ) (l : i < n). h (suc i) (suc-le-suc l)))
 
 -- ---- the search for a place from the front: i entries are passed
 

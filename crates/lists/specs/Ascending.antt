@@ -24,6 +24,6 @@ Ascending (x ∷ xs) = NoneBefore x xs × Ascending xs
 -- the same members, as often, in another order
 pub data Perm {A : Type 0} : List A → List A → Type 0 where
   same : {xs : List A} → Perm xs xs
-  keep : {x : A} {xs ys : List A} → Perm xs ys → Perm (x ∷ xs) (x ∷ ys)
-  swap : {x y : A} {xs : List A} → Perm (x ∷ y ∷ xs) (y ∷ x ∷ xs)
-  then : {xs ys zs : List A} → Perm xs ys → Perm ys zs → Perm xs zs
+  next : {x : A} {xs ys : List A} → Perm xs ys → Perm (x ∷ xs) (x ∷ ys)
+  exchange : {x y : A} {xs : List A} → Perm (x ∷ y ∷ xs) (y ∷ x ∷ xs)
+  chain : {xs ys zs : List A} → Perm xs ys → Perm ys zs → Perm xs zs

@@ -86,12 +86,12 @@ pub fn sort(nodes: &mut [u32], dists: &mut [f32], len: usize)
     requires { ⌜ (len ≤ length (now nodes)) × (len ≤ length (now dists)) ⌝ }
     ensures { λ _. ⌜ SortedIn (now (nodes .entry)) (now (dists .entry)) len (now (nodes .exit)) (now (dists .exit)) ⌝ }
 {
-    let mut i = 0;
-    while i < len {
+    let mut done = 0;
+    while done < len {
         let e = Neighbor {
-            node: NodeId(nodes[i]),
-            distance: dists[i],
+            node: NodeId(nodes[done]),
+            distance: dists[done],
         };
-        i = push(nodes, dists, i, e);
+        done = push(nodes, dists, done, e);
     }
 }

@@ -54,6 +54,13 @@ transitive a b c A B C p q =
     let y = ltb-true (key M b) (key M c) (sym (before-key M b c B C (omega arith) (omega arith)) ∙ q) in
     before-key M a c A C (omega arith) (omega arith) ∙ lt-ltb (key M a) (key M c) (omega arith)
 
+-- at most one of two precedes the other
+pub asymmetric : (a b : Neighbor) → Holdable (a .distance) → Holdable (b .distance) → before a b ≡ true → before b a ≡ false
+asymmetric a b A B p =
+    let M = suc (nodeOf a + nodeOf b) in
+    let x = ltb-true (key M a) (key M b) (sym (before-key M a b A B (omega arith) (omega arith)) ∙ p) in
+    before-key M b a B A (omega arith) (omega arith) ∙ le-ltb (key M b) (key M a) (omega arith)
+
 -- numbers whose keys are equal are equal
 same-high : (M r s i j : ℕ) → i < M → j < M → r * M + i ≡ s * M + j → r ≡ s
 same-high M r s i j I J h = go (ltb r s) (ltb s r) refl refl
