@@ -1,6 +1,6 @@
 -- Laws of a list in two slices: its entries, the search for a place, how a place is made free, and what each function leaves. Assumes nothing.
 use mathlib.Core.Path.{_≡_, refl, sym, ap, _∙_}
-use mathlib.Core.Bool.{Bool, true, false}
+use mathlib.Core.Bool.{true, false}
 use mathlib.Core.List.{List, [], _∷_, _++_}
 use Prim.Native.Nat.{ℕ, zero, suc, _+_, _-_, _≤_, _<_, zero-le, suc-le-suc, min}
 use native.Mathlib.Nat.{le-of-suc-le-suc, not-suc-le-zero, suc-add, add-suc, add-zero}
@@ -121,9 +121,9 @@ pub record Passed (ns : List ℕ) (ds : List Float) (len : ℕ) (e : Neighbor) (
   pub within : i ≤ len
   pub left : place e (entries len ns ds) ≡ i + place e (drop i (entries len ns ds))
 
-module _ {ns : List ℕ} {ds : List Float} {len : ℕ} {e : Neighbor} {i : ℕ} (a : ℕ) (d : Float) (inv : Passed ns ds len e i) (h : len ≤ length ns) (k : len ≤ length ds) where
-  pub passed-here : i < len → before e (neighbor (getD ns i a) (getD ds i d)) ≡ true → PlaceFound ns ds len e i
-  passed-here l b =
+module _ {ns : List ℕ} {ds : List Float} {len : ℕ} {e : Neighbor} {i : ℕ} (inv : Passed ns ds len e i) (h : len ≤ length ns) (k : len ≤ length ds) where
+  pub passed-here : (a : ℕ) (d : Float) → i < len → before e (neighbor (getD ns i a) (getD ds i d)) ≡ true → PlaceFound ns ds len e i
+  passed-here a d l b =
       let x = neighbor (getD ns i a) (getD ds i d) in
       let E = entries len ns ds in
       record {
@@ -133,8 +133,8 @@ module _ {ns : List ℕ} {ds : List Float} {len : ℕ} {e : Neighbor} {i : ℕ} 
         within = inv .within;
       }
 
-  pub passed-turn : i < len → before e (neighbor (getD ns i a) (getD ds i d)) ≡ false → Passed ns ds len e (i + 1)
-  passed-turn l b =
+  pub passed-turn : (a : ℕ) (d : Float) → i < len → before e (neighbor (getD ns i a) (getD ds i d)) ≡ false → Passed ns ds len e (i + 1)
+  passed-turn a d l b =
       let x = neighbor (getD ns i a) (getD ds i d) in
       let E = entries len ns ds in
       record {

@@ -41,7 +41,8 @@ fn shift_up(nodes: &mut [u32], dists: &mut [f32], p: usize, last: usize)
 }
 
 /// Pushes `e` in order into the list of the first `len` entries and keeps the least `k`: where `len` is `k`, the last is lost.
-/// No place from `k` on is read or written. Returns the new length (hora's `BinaryHeap` with `push`, then `pop` when too long).
+/// No place from `k` on is read or written. Returns the new length
+/// (hora's `heap.push`, then `heap.pop` where there are more than `k`, in `build_knn_graph`).
 pub fn push_cut(nodes: &mut [u32], dists: &mut [f32], len: usize, k: usize, e: Neighbor) -> usize
     requires { ⌜ (len ≤ k) × (k ≤ length (now nodes)) × (k ≤ length (now dists)) ⌝ }
     ensures { λ r. ⌜ PushedCut (now (nodes .entry)) (now (dists .entry)) len k e (now (nodes .exit)) (now (dists .exit)) r ⌝ }
@@ -61,7 +62,7 @@ pub fn push_cut(nodes: &mut [u32], dists: &mut [f32], len: usize, k: usize, e: N
     last + 1
 }
 
-/// Pushes `e` in order into the list of the first `len` entries, and returns the new length (hora's `BinaryHeap::push`).
+/// Pushes `e` in order into the list of the first `len` entries, and returns the new length (hora's `heap.push`).
 pub fn push(nodes: &mut [u32], dists: &mut [f32], len: usize, e: Neighbor) -> usize
     requires { ⌜ (len < length (now nodes)) × (len < length (now dists)) ⌝ }
     ensures { λ r. ⌜ Pushed (now (nodes .entry)) (now (dists .entry)) len e (now (nodes .exit)) (now (dists .exit)) r ⌝ }
@@ -70,7 +71,7 @@ pub fn push(nodes: &mut [u32], dists: &mut [f32], len: usize, e: Neighbor) -> us
 }
 
 /// Takes the last entry off the list of the first `len` entries, zeroes its place, and returns the new length
-/// (hora's `BinaryHeap::pop`).
+/// (hora's `heap.pop`).
 pub fn pop(nodes: &mut [u32], dists: &mut [f32], len: usize) -> usize
     requires { ⌜ (1 ≤ len) × (len ≤ length (now nodes)) × (len ≤ length (now dists)) ⌝ }
     ensures { λ r. ⌜ Popped (now (nodes .entry)) (now (dists .entry)) len (now (nodes .exit)) (now (dists .exit)) r ⌝ }
@@ -81,7 +82,7 @@ pub fn pop(nodes: &mut [u32], dists: &mut [f32], len: usize) -> usize
     last
 }
 
-/// Sorts the first `len` entries in place: each is pushed in order into the list before it (hora's `sort_unstable`).
+/// Sorts the first `len` entries in place: each is pushed in order into the list before it (hora's `sort` and `sort_unstable`).
 pub fn sort(nodes: &mut [u32], dists: &mut [f32], len: usize)
     requires { ⌜ (len ≤ length (now nodes)) × (len ≤ length (now dists)) ⌝ }
     ensures { λ _. ⌜ SortedIn (now (nodes .entry)) (now (dists .entry)) len (now (nodes .exit)) (now (dists .exit)) ⌝ }

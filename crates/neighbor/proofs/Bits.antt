@@ -1,7 +1,8 @@
 -- The order of two distances that a list can hold is the order of their bits as whole numbers. Assumes nothing.
 use mathlib.Core.Path.{_≡_, refl, sym, _∙_, ap, subst}
 use mathlib.Core.Logic.{_⊎_, inl, inr}
-use mathlib.Core.Bool.{Bool, true, false, not, _&&_}
+use mathlib.Core.Bool.{Bool, true, false, cond, not, _&&_}
+use mathlib.Core.List.{List, [], _∷_}
 use Prim.Native.Nat.{ℕ, zero, suc, _+_, _-_, _*_, _/_, _%_, _^_, _<_, _≤_}
 use native.Mathlib.Nat.{le-trans, le-of-eq, le-of-lt, lt-of-le-of-lt, lt-of-lt-of-le, lt-irrefl, eq-or-lt-of-le, mul-assoc, mul-one, zero-add, mul-le-mul-right, le-of-mul-le-mul-right, mul-div-cancel, div-one, le-div-iff-mul-le, suc-mul, zero-mul, zero-div, le-of-suc-le-suc, lt-of-not-le}
 use native.Mathlib.Omega.{arith}
@@ -11,12 +12,13 @@ use lib.IntN.{ℤ, pos, negsuc}
 use lib.Pow.{pow-add, pow-pos, pow-lt}
 use lib.Ieee.{Float, nan, inf, fin, Format, binary32, prec, emax, low, up, down, size, toBits, ofBits, fits, lt, eq}
 use lib.Ieee.Digits.{size-lt, size-le, size-reaches, back}
-use lib.Ieee.Fits.{kept-lt, two, two-le-pos, and-l, and-r}
+use lib.Ieee.Fits.{kept-lt, two, two-le-pos, and-l, and-r, add-fits}
 use lib.Ieee.Bits.{ofBits-toBits, ofBits-fits}
 use lib.Ieee.Order.{transfer}
 use lib.Ieee.Nearest.{div-mono}
 use lib.Ieee.Positive.{num, den, den-pos}
-use Rattle.rules.specs.Distance.{fit}
+use Rattle.rules.specs.declared.Distance.the-variants.{Fit, Unfit}
+use Rattle.rules.specs.Distance.{lane, totalOf, zero32, fit, answer, distanceOf, carried, lanesOf, nodesApart, between}
 use Rattle.rules.specs.Rows.{emptyDistance}
 use Rattle.neighbor.specs.Holdable.{Holdable}
 
@@ -151,6 +153,10 @@ pub holdable-empty : Holdable emptyDistance
 unfolding ofBits toBits
 holdable-empty = record { held = ofBits-fits binary32 0x7F7FFFFF; low = omega arith }
 
+pub holdable-zero : Holdable zero32
+unfolding ofBits toBits
+holdable-zero = record { held = ofBits-fits binary32 0; low = omega arith }
+
 module _ (x y : Float) (hx : Holdable x) (hy : Holdable y) where
   bits-mono : num x * den y ≤ num y * den x → toBits binary32 x ≤ toBits binary32 y
   bits-mono h =
@@ -204,3 +210,32 @@ bits-eq x y hx hy = eq-is x y (holdable-plus x hx) (holdable-plus y hy) ∙ go (
         let l : u ≤ v = bits-mono x y hx hy k in
         let m : v ≤ u = bits-mono y x hy hx h in
         rw (eq-eqb a b (omega arith), eq-eqb u v (omega arith))
+
+-- ---- the distances of 01
+
+total-fits : (total : Float) (a b : List Float) → T (fits binary32 total) → T (fits binary32 (totalOf total a b))
+unfolding totalOf lane
+total-fits total [] y h = h
+total-fits total (a ∷ x) [] h = h
+total-fits total (a ∷ x) (b ∷ y) h = total-fits (lane total a b) x y (add-fits binary32 total _)
+
+-- a distance that an answer carries can be held, and so can what stands for one that is unfit
+pub holdable-carried : (a b : List Float) → Holdable (carried (distanceOf a b))
+unfolding carried distanceOf answer
+holdable-carried a b = go (fit t) refl
+  where
+    t : Float
+    t = totalOf zero32 a b
+
+    go : (c : Bool) → fit t ≡ c → Holdable (carried (cond c (Fit t) Unfit))
+    go true e = holdable-fit t (total-fits zero32 a b (ofBits-fits binary32 0)) e
+    go false e = holdable-zero
+
+pub holdable-distance : (a b : List Float) (x : Float) → distanceOf a b ≡ Fit x → Holdable x
+unfolding carried
+holdable-distance a b x e = subst Holdable (ap carried e) (holdable-carried a b)
+
+-- build, descent and relay: of any two nodes
+pub holdable-between : (lanes : List Float) (dimension i j : ℕ) → Holdable (between lanes dimension i j)
+unfolding between nodesApart
+holdable-between lanes dimension i j = holdable-carried (lanesOf lanes dimension i) (lanesOf lanes dimension j)

@@ -6,7 +6,7 @@ use Prim.Native.Nat.{ℕ, suc, _+_, _*_, _≤_, _<_}
 use native.Mathlib.Nat.{mul-le-mul-right, suc-mul}
 use native.Mathlib.Omega.{arith}
 use lib.Dec.{ltb, eqb}
-use lib.Ieee.{Float, binary32, toBits}
+use lib.Ieee.{binary32, toBits}
 use borrow.Author.Tests.{lt-ltb, le-ltb, ltb-true, ltb-false, eqb-true, eqb-false}
 use Rattle.rules.specs.declared.Neighbor.{Neighbor}
 use Rattle.rules.specs.Distance.{before}

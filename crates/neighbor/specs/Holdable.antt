@@ -1,5 +1,5 @@
 -- What a list can hold. Assumes nothing.
-use Prim.Native.Nat.{ℕ, _≤_}
+use Prim.Native.Nat.{_≤_}
 use lib.Dec.{T}
 use lib.Ieee.{Float, binary32, fits, toBits}
 

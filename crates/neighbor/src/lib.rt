@@ -3,7 +3,8 @@ ghost use mathlib.Core.Path.{_≡_};
 ghost use Rattle.rules.specs.Distance.{before};
 use rules::Neighbor;
 
-/// Whether `a` stands before `b`: by distance, and where the distances are equal, by node number (hora's `Ord` of `Neighbor`).
+/// Whether `a` stands before `b`: by distance, and where the distances are equal, by node number
+/// (hora's `Neighbor::cmp`, which leaves entries of equal distance in no order).
 pub fn precedes(a: Neighbor, b: Neighbor) -> bool
     ensures { λ r. ⌜ r ≡ before a b ⌝ }
 {

@@ -35,7 +35,7 @@ returns : tie.Need-returns Inv-loop μ-loop
 returns c =
     let at = c .before .before .before .before .before in
     let pre = at .before .before .before .pre in
-    passed-here _ _ (at .loop .inv) (pre .0) (pre .1) (c .before .before .before .before .loop-test .taken)
+    passed-here (at .loop .inv) (pre .0) (pre .1) _ _ (c .before .before .before .before .loop-test .taken)
     (sym (c .before .precedes .ensures) ∙ c .if1 .taken)
 
 add-i : tie.Need-add-i Inv-loop μ-loop
@@ -48,14 +48,14 @@ loop-again : tie.Need-loop-again Inv-loop μ-loop
 loop-again c =
     let at = c .before .before .before .before .before in
     let pre = at .before .before .before .pre in
-    passed-turn _ _ (at .loop .inv) (pre .0) (pre .1) (c .before .before .before .before .loop-test .taken)
+    passed-turn (at .loop .inv) (pre .0) (pre .1) _ _ (c .before .before .before .before .loop-test .taken)
     (sym (c .before .precedes .ensures) ∙ c .if1 .left)
 
 returns-2 : tie.Need-returns-2 Inv-loop μ-loop
 returns-2 c =
     let at = c .before in
     let pre = at .before .before .before .pre in
-    passed-end 0 lib.Ieee.nan (at .loop .inv) (pre .0) (pre .1) (c .loop-test .left)
+    passed-end (at .loop .inv) (pre .0) (pre .1) (c .loop-test .left)
 
 pub place-of-spec : {M : Type 1} → statement M
 place-of-spec =
