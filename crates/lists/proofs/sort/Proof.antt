@@ -38,7 +38,7 @@ loop-again c =
     let test = made .before .before .before .before .before in
     let at = test .before in
     let pre = at .before .before .before .pre in
-    sorting-turn (at .loop .inv) (pre .0) (pre .1) _ _ (test .loop-test .taken) (made .push .ensures)
+    sorting-turn (at .loop .inv) (pre .0) (pre .1) _ _ (search needs) (made .push .ensures)
 
 same-length : tie.Need-same-length Inv-loop μ-loop
 same-length c = c .before .loop .inv .nodes-long
@@ -50,7 +50,7 @@ returns : tie.Need-returns Inv-loop μ-loop
 returns c =
     let at = c .before in
     let pre = at .before .before .before .pre in
-    sorting-end (at .loop .inv) (pre .0) (pre .1) (c .loop-test .left)
+    sorting-end (at .loop .inv) (pre .0) (pre .1) (search needs)
 
 pub sort-spec : {M : Type 1} → statement M
 sort-spec =
