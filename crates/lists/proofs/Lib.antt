@@ -1,0 +1,5 @@
+-- `Loops`: loops in general. `Perm`: rearranged lists. `Laws`: of `insert`, `sort` and `least`. `Slices`: of a list in two slices.
+pub mod Loops
+pub mod Perm
+pub mod Laws
+pub mod Slices

@@ -1,0 +1,2 @@
+-- What a list can hold.
+pub mod Holdable
