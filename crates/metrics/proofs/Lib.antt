@@ -1,0 +1,2 @@
+-- What is proved of distances, beside the functions. `Steps`: what the functions lean on.
+pub mod Steps

@@ -1,0 +1,2 @@
+-- What the contracts of the distances say, as records.
+pub mod Measured
