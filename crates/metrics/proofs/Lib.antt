@@ -1,2 +1,5 @@
--- What is proved of distances, beside the functions. `Steps`: what the functions lean on.
+-- What is proved of distances, beside the functions. `Steps`: what the functions lean on. `First`: the first place of a loop.
+-- `Pairs`: row 10 of all pairs.
 pub mod Steps
+pub mod First
+pub mod Pairs

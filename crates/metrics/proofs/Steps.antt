@@ -3,6 +3,7 @@ use mathlib.Core.Path.{_≡_, refl, sym, _∙_, ap, subst}
 use mathlib.Core.Bool.{true, false, not}
 use mathlib.Core.List.{List}
 use Prim.Native.Nat.{ℕ, _+_, _-_, _*_, _<_, _≤_}
+use native.Mathlib.Nat.{mul-le-mul-right}
 use native.Mathlib.Numerals.{add-one}
 use native.Mathlib.Omega.{arith}
 use lib.Dec.{T}
@@ -26,6 +27,10 @@ part-of lanes dimension node h =
     let e : node * dimension + dimension - node * dimension ≡ dimension = omega arith in
     let room : dimension ≤ length (drop (node * dimension) lanes) = simp length-drop (omega arith) in
     rw e (record { contents = refl; long = length-take-le dimension (drop (node * dimension) lanes) room })
+
+-- a node below n has its lanes within n times dimension
+pub room : (long n dimension : ℕ) (i : ℕ) → long ≡ n * dimension → i < n → (i + 1) * dimension ≤ long
+room long n dimension i e l = rw e (mul-le-mul-right dimension (let h : i + 1 ≤ n = omega arith in h))
 
 -- ---- the loop of `metric`
 

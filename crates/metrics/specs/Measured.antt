@@ -1,12 +1,11 @@
--- A node's lanes, a distance answer and the first unfit place, each by the rulebook's definition. Assumes nothing.
+-- A node's lanes and a distance answer, each by the rulebook's definition. Assumes nothing.
 use mathlib.Core.Path.{_≡_}
 use mathlib.Core.List.{List}
-use Prim.Native.Nat.{ℕ, _≤_}
+use Prim.Native.Nat.{ℕ}
 use lib.ListN.{length}
 use lib.Ieee.{Float}
 use Rattle.rules.specs.declared.Distance.{Distance}
-use Rattle.rules.specs.Distance.{distanceOf, lanesOf, nodesApart, measureOf}
-use Rattle.rules.specs.Refusals.{unfitAfter}
+use Rattle.rules.specs.Distance.{distanceOf, lanesOf, measureOf}
 
 -- "lanes in one f32 slice": the part that a node has of it
 pub record Lanes (lanes : List Float) (dimension node : ℕ) (part : List Float) : Type 0 where
@@ -17,8 +16,3 @@ pub record Lanes (lanes : List Float) (dimension node : ℕ) (part : List Float)
 pub record Measured (a b : List Float) (r : Distance) : Type 0 where
   pub answer : r ≡ distanceOf a b
   pub said : measureOf r ≡ measureOf (distanceOf a b)
-
--- the first j after i that is unfit with it, or n
-pub record After (lanes : List Float) (dimension n i r : ℕ) : Type 0 where
-  pub first : r ≡ unfitAfter (nodesApart lanes dimension) n i
-  pub within : r ≤ n

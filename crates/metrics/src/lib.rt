@@ -4,9 +4,9 @@ ghost use mathlib.Core.List.{[], _∷_};
 ghost use Prim.Native.Nat.{_+_, _*_, _≤_, _<_};
 ghost use lib.ListN.{length};
 ghost use lib.Dec.{eqb};
-ghost use Rattle.rules.specs.Distance.{nodesApart, queryApart};
-ghost use Rattle.rules.specs.Refusals.{decide, decisionOf, row10};
-ghost use Rattle.metrics.specs.Measured.{Lanes, Measured, After};
+ghost use Rattle.rules.specs.Distance.{nodesApart, queryApart, unfit, carried, between};
+ghost use Rattle.rules.specs.Refusals.{decide, decisionOf, row10, unfitAfter};
+ghost use Rattle.metrics.specs.Measured.{Lanes, Measured};
 use rules::Answer;
 use rules::Distance;
 use rules::NodeId;
@@ -70,4 +70,64 @@ pub fn node_distance(lanes: &[f32], dimension: usize, i: NodeId, j: NodeId) -> D
     let x = lanes_of(lanes, dimension, i);
     let y = lanes_of(lanes, dimension, j);
     metric(x, y)
+}
+
+/// Whether a distance answer says unfit.
+pub fn unfit(distance: Distance) -> bool
+    ensures { λ r. ⌜ r ≡ unfit distance ⌝ }
+{
+    match distance {
+        Distance::Fit(_) => false,
+        Distance::Unfit => true,
+    }
+}
+
+/// The distance that an answer carries, and 0.0 where it is unfit.
+pub fn carried(distance: Distance) -> f32
+    ensures { λ r. ⌜ r ≡ carried distance ⌝ }
+{
+    match distance {
+        Distance::Fit(x) => x,
+        Distance::Unfit => 0.0,
+    }
+}
+
+/// The distance of two nodes, once row 10 has passed (hora's `metric` of two of `self.nodes`).
+pub fn between(lanes: &[f32], dimension: usize, i: NodeId, j: NodeId) -> f32
+    requires { ⌜ ((i .0 + 1) * dimension ≤ length (now lanes)) × ((j .0 + 1) * dimension ≤ length (now lanes)) ⌝ }
+    ensures { λ r. ⌜ r ≡ between (now (lanes .entry)) dimension (i .0) (j .0) ⌝ }
+{
+    carried(node_distance(lanes, dimension, i, j))
+}
+
+// The first node after i that is unfit with it, or n.
+fn unfit_after(lanes: &[f32], dimension: usize, n: usize, i: NodeId) -> usize
+    requires { ⌜ (length (now lanes) ≡ n * dimension) × (n ≤ 4096) × (i .0 < n) ⌝ }
+    ensures { λ r. ⌜ r ≡ unfitAfter (nodesApart (now (lanes .entry)) dimension) n (i .0) ⌝ }
+{
+    let mut j = i.0 as usize + 1;
+    while j < n {
+        let apart = node_distance(lanes, dimension, i, NodeId(j as u32));
+        if unfit(apart) {
+            return j;
+        }
+        j += 1;
+    }
+    j
+}
+
+/// Row 10 of build, begin and iteration: the first unfit pair i < j, i rising and then j.
+pub fn first_unfit(lanes: &[f32], dimension: usize, n: usize) -> Answer
+    requires { ⌜ (length (now lanes) ≡ n * dimension) × (n ≤ 4096) ⌝ }
+    ensures { λ r. ⌜ decisionOf r ≡ decide (row10 (nodesApart (now (lanes .entry)) dimension) n ∷ []) ⌝ }
+{
+    let mut i = 0usize;
+    while i < n {
+        let j = unfit_after(lanes, dimension, n, NodeId(i as u32));
+        if j < n {
+            return Answer::Refused(Refusal::Pair(NodeId(i as u32), NodeId(j as u32)));
+        }
+        i += 1;
+    }
+    Answer::Done
 }
