@@ -1,16 +1,22 @@
 -- Row 10 of all pairs: what it answers, and what is known once it has passed. Assumes nothing.
 use mathlib.Core.Path.{_≡_, refl, sym, _∙_, ap}
-use mathlib.Core.Bool.{Bool, true, false, cond}
-use mathlib.Core.List.{[], _∷_}
-use Prim.Native.Nat.{ℕ, zero, suc, _+_, _-_, _<_, _≤_}
+use mathlib.Core.Logic.{_⊎_, inl, inr}
+use mathlib.Core.Bool.{Bool, true, false, not, cond}
+use mathlib.Core.List.{List, [], _∷_}
+use Prim.Native.Nat.{ℕ, suc, _-_, _<_, _≤_}
+use native.Mathlib.Nat.{eq-or-lt-of-le}
 use native.Mathlib.Omega.{arith}
-use lib.Dec.{ltb}
+use lib.Dec.{T, ltb, ltb→lt, nltb→le}
+use lib.Ieee.{Float}
 use borrow.Author.Tests.{lt-ltb, le-ltb, ltb-false}
 use Rattle.rules.specs.declared.Distance.{Distance}
+use Rattle.rules.specs.declared.Distance.the-variants.{Fit}
 use Rattle.rules.specs.Loops.{firstFrom}
-use Rattle.rules.specs.Distance.{unfit}
+use Rattle.rules.specs.Distance.{unfit, nodesApart, between}
 use Rattle.rules.specs.Refusals.{Decision, passed, refused, code, decide, row10, unfitAfter, firstUnfit}
 use Rattle.metrics.proofs.First.{none-before}
+use Rattle.metrics.proofs.Symmetry.{apart-symmetric}
+use Rattle.metrics.proofs.Fitness.{is-carried}
 
 module _ (apart : ℕ → ℕ → Distance) (n : ℕ) where
   pub refuses : (i j : ℕ) → i < n → firstUnfit apart n ≡ i → unfitAfter apart n i ≡ j → decide (row10 apart n ∷ []) ≡ refused (code 10 i j)
@@ -37,3 +43,16 @@ module _ (apart : ℕ → ℕ → Distance) (n : ℕ) where
       let row : ltb (unfitAfter apart n i) n ≡ false = none-before (λ (i : ℕ). ltb (unfitAfter apart n i) n) 0 n i (omega arith) (omega arith) in
       let after : n ≤ unfitAfter apart n i = ltb-false (unfitAfter apart n i) n row in
       none-before (λ (j : ℕ). unfit (apart i j)) (suc i) (n - suc i) j l (omega arith)
+
+-- the distances that build, begin and iteration are told of, once the row has passed
+pub passed-fit : (lanes : List Float) (dimension n : ℕ) → decide (row10 (nodesApart lanes dimension) n ∷ []) ≡ passed
+    → (i j : ℕ) → i < n → j < n → (i ≡ j → ⊥) → nodesApart lanes dimension i j ≡ Fit (between lanes dimension i j)
+unfolding between
+passed-fit lanes dimension n h i j l m d = is-carried (nodesApart lanes dimension i j) (go (ltb i j) (ltb→lt i j) (nltb→le i j))
+  where
+    go : (t : Bool) → (T t → i < j) → (T (not t) → j ≤ i) → unfit (nodesApart lanes dimension i j) ≡ false
+    go true below above = all-fit (nodesApart lanes dimension) n h i j (below tt) m
+    go false below above = elim (eq-or-lt-of-le (above tt)) [
+      | inl e ↦ absurd (d (sym e))
+      | inr k ↦ ap unfit (apart-symmetric lanes dimension i j) ∙ all-fit (nodesApart lanes dimension) n h j i k l
+    ]
