@@ -1,5 +1,5 @@
 -- What a fit distance is: a value of binary32 that is no NaN, not infinite and not negative. Assumes nothing.
-use mathlib.Core.Path.{_≡_, refl, subst}
+use mathlib.Core.Path.{_≡_, refl, sym, subst}
 use mathlib.Core.Bool.{Bool, true, false, cond}
 use mathlib.Core.List.{List, [], _∷_}
 use Prim.Native.Nat.{ℕ, _<_, _≤_}
@@ -80,3 +80,11 @@ pub is-carried : (d : Distance) → unfit d ≡ false → d ≡ Fit (carried d)
 unfolding unfit carried
 is-carried (Fit x) h = refl
 is-carried Unfit h = absurd (subst T h tt)
+
+pub answer-fit : (x : Float) → unfit (answer x) ≡ false → fit x ≡ true
+unfolding answer unfit
+answer-fit x h = go (fit x) h
+  where
+    go : (t : Bool) → unfit (cond t (Fit x) Unfit) ≡ false → t ≡ true
+    go true e = refl
+    go false e = sym e

@@ -4,5 +4,6 @@ pub mod Steps
 pub mod First
 pub mod Symmetry
 pub mod Fitness
+pub mod Finite
 pub mod Self
 pub mod Pairs

@@ -20,13 +20,19 @@ use Rattle.metrics.specs.Measured.{Lanes, Measured}
 
 -- ---- a node's part
 
+pub lanes-long : (lanes : List Float) (dimension node : ℕ) → (node + 1) * dimension ≤ length lanes → length (lanesOf lanes dimension node) ≡ dimension
+unfolding lanesOf part
+lanes-long lanes dimension node h =
+    let room : dimension ≤ length (drop (node * dimension) lanes) = simp length-drop (omega arith) in
+    length-take-le dimension (drop (node * dimension) lanes) room
+
+-- as the code cuts it
 pub part-of : (lanes : List Float) (dimension node : ℕ) → (node + 1) * dimension ≤ length lanes
     → Lanes lanes dimension node (take (node * dimension + dimension - node * dimension) (drop (node * dimension) lanes))
 unfolding lanesOf part
 part-of lanes dimension node h =
     let e : node * dimension + dimension - node * dimension ≡ dimension = omega arith in
-    let room : dimension ≤ length (drop (node * dimension) lanes) = simp length-drop (omega arith) in
-    rw e (record { contents = refl; long = length-take-le dimension (drop (node * dimension) lanes) room })
+    rw e (record { contents = refl; long = lanes-long lanes dimension node h })
 
 -- a node below n has its lanes within n times dimension
 pub room : (long n dimension : ℕ) (i : ℕ) → long ≡ n * dimension → i < n → (i + 1) * dimension ≤ long
