@@ -1,6 +1,6 @@
 -- Row 10 of all pairs: what it answers, and what is known once it has passed. Assumes nothing.
 use mathlib.Core.Path.{_≡_, refl, sym, _∙_, ap}
-use mathlib.Core.Logic.{_⊎_, inl, inr}
+use mathlib.Core.Logic.{inl, inr}
 use mathlib.Core.Bool.{Bool, true, false, not, cond}
 use mathlib.Core.List.{List, [], _∷_}
 use Prim.Native.Nat.{ℕ, zero, suc, _-_, _*_, _<_, _≤_}
@@ -12,9 +12,8 @@ use lib.Ieee.{Float}
 use borrow.Author.Tests.{lt-ltb, le-ltb, ltb-false}
 use Rattle.rules.specs.declared.Distance.{Distance}
 use Rattle.rules.specs.declared.Distance.the-variants.{Fit}
-use Rattle.rules.specs.Loops.{firstFrom}
 use Rattle.rules.specs.Distance.{totalOf, zero32, distanceOf, unfit, lanesOf, nodesApart, between}
-use Rattle.rules.specs.Refusals.{Decision, passed, refused, code, decide, row10, unfitAfter, firstUnfit}
+use Rattle.rules.specs.Refusals.{passed, refused, code, decide, row10, unfitAfter, firstUnfit}
 use Rattle.metrics.specs.Finite.{AllFinite}
 use Rattle.metrics.proofs.Steps.{lanes-long, room}
 use Rattle.metrics.proofs.First.{none-before}

@@ -1,16 +1,16 @@
 -- With finite lanes the distance of a vector with itself is 0.0. Assumes nothing.
-use mathlib.Core.Path.{_≡_, refl, sym, _∙_, ap}
-use mathlib.Core.Bool.{Bool, true, false, not, _&&_, cond}
+use mathlib.Core.Path.{_≡_, refl, _∙_, ap}
+use mathlib.Core.Bool.{Bool, true, false, not}
 use mathlib.Core.List.{List, [], _∷_}
-use Prim.Native.Nat.{ℕ, zero, suc, _+_, _-_, _*_, _^_, _<_, _≤_}
-use native.Mathlib.Nat.{mul-pos, zero-mul, zero-lt-suc}
+use Prim.Native.Nat.{ℕ, _-_, _*_}
+use native.Mathlib.Nat.{mul-pos, zero-lt-suc}
 use native.Mathlib.Omega.{arith}
 use lib.Dec.{T}
-use lib.IntN.{ℤ, pos}
-use lib.Ieee.{Float, nan, inf, fin, Format, binary32, low, up, down, round, sum, add, sub, mul, ofBits, toBits}
+use lib.IntN.{pos}
+use lib.Ieee.{Float, nan, inf, fin, binary32, up, down, round, add, sub, mul, ofBits, toBits}
 use lib.Ieee.Fits.{down-pos}
 use lib.Ieee.Scale.{round-same, finite}
-use Rattle.rules.specs.declared.Distance.the-variants.{Fit, Unfit}
+use Rattle.rules.specs.declared.Distance.the-variants.{Fit}
 use Rattle.rules.specs.Distance.{lane, totalOf, fit, answer, zero32, distanceOf, lanesOf, nodesApart, carried, between}
 use Rattle.metrics.specs.Finite.{AllFinite}
 use Rattle.metrics.proofs.Symmetry.{size, square, spread, size-sum}

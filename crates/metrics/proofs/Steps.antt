@@ -77,3 +77,7 @@ unfolding distanceOf
 measured a b r t e w =
     let d : r ≡ distanceOf a b = sym e ∙ ap answer w in
     record { answer = d; said = ap measureOf d }
+
+-- the distance of the lanes that were cut out
+pub of-parts : (r : Distance) (x y a b : List Float) → Measured x y r → x ≡ a → y ≡ b → r ≡ distanceOf a b
+of-parts r x y a b m e f = m .answer ∙ ap (λ (z : List Float). distanceOf z y) e ∙ ap (distanceOf a) f

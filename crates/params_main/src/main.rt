@@ -1,4 +1,4 @@
-// The setters chained, as with hora's `SSGParams`: the settled squares' parameters from the defaults.
+// The setters chained, as with `SSGParams` in hora: each parameter set to another than its default.
 use params::SsgParams;
 
 fn main() {

@@ -1,7 +1,7 @@
 -- `between` meets its contract.
 use mathlib.Core.Path.{_∙_, ap}
 use borrow.Author.Needs.{needs}
-use Rattle.rules.specs.Distance.{between, carried}
+use Rattle.rules.specs.Distance.{carried, between}
 use Rattle.metrics.proofs.between.Statement.{statement}
 use Rattle.metrics.proofs.between.Tie as tie
 
@@ -13,7 +13,7 @@ carried-requires c κs = search needs
 
 returns : tie.Need-returns
 unfolding between
-returns c = cc
+returns c = c .carried .ensures ∙ ap carried (c .before .node-distance .ensures)
 
 pub between-spec : {M : Type 1} → statement M
 between-spec = tie.close (tie.spec node-distance-requires carried-requires returns)

@@ -1,8 +1,8 @@
 -- `first_unfit` meets its contract: the first i from here on that has an unfit pair is the first of all.
-use mathlib.Core.Path.{_≡_, sym, _∙_}
+use mathlib.Core.Path.{_≡_, sym, _∙_, ap}
 use mathlib.Core.Bool.{Bool, true, false}
 use mathlib.Core.List.{List}
-use Prim.Native.Nat.{ℕ, _<_, _≤_, _-_}
+use Prim.Native.Nat.{ℕ, _≤_, _-_}
 use native.Mathlib.Omega.{arith}
 use lib.Dec.{ltb}
 use lib.Ieee.{Float}
@@ -46,7 +46,7 @@ cast-t11 c = omega arith
 -- what the test says of the place
 tested : (c : tie.After-unfit-after Inv-loop μ-loop) (b : Bool) → ltb (c .unfit-after .result) (c .before .before .before .before .args .n) ≡ b
     → let at = c .before .before in let args = at .before .before .args in test (now (args .lanes)) (args .dimension) (args .n) (at .loop .i) ≡ b
-tested c b e = cc
+tested c b e = ap (λ (j : ℕ). ltb j (c .before .before .before .before .args .n)) (sym (c .unfit-after .ensures)) ∙ e
 
 returns : tie.Need-returns Inv-loop μ-loop
 unfolding decisionOf codeOf

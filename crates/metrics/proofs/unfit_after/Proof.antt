@@ -1,8 +1,8 @@
 -- `unfit_after` meets its contract: the first unfit place from j on is the first after i.
-use mathlib.Core.Path.{_≡_, sym, _∙_}
+use mathlib.Core.Path.{_≡_, sym, _∙_, ap}
 use mathlib.Core.Bool.{Bool, true, false}
 use mathlib.Core.List.{List}
-use Prim.Native.Nat.{ℕ, _<_, _≤_, _-_}
+use Prim.Native.Nat.{ℕ, _≤_, _-_}
 use native.Mathlib.Omega.{arith}
 use native.Mathlib.Numerals.{add-one}
 use lib.Ieee.{Float}
@@ -50,7 +50,7 @@ unfit-requires c κs = search needs
 -- what the test says of the place
 tested : (c : tie.After-unfit Inv-loop μ-loop) (b : Bool) → c .unfit .result ≡ b
     → let at = c .before .before .before in let args = at .before .before .before .args in test (now (args .lanes)) (args .dimension) (args .i .0) (at .loop .j) ≡ b
-tested c b e = cc
+tested c b e = ap unfit (sym (c .before .node-distance .ensures)) ∙ sym (c .unfit .ensures) ∙ e
 
 returns : tie.Need-returns Inv-loop μ-loop
 returns c =

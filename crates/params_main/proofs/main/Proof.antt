@@ -1,8 +1,6 @@
 -- `main` meets its contract: the chain of setters gives the four parameters that were set.
 use mathlib.Core.Path.{_≡_, _∙_, ap}
-use mathlib.Core.Bool.{true}
-use Prim.Native.Nat.{ℕ}
-use lib.Ieee.{Float, binary32, ofBits, eq}
+use lib.Ieee.{binary32, ofBits, eq}
 use borrow.Author.Needs.{needs}
 use borrow.Author.Tests.{eq-eqb}
 use Rattle.params.specs.declared.SsgParams.{SsgParams}
