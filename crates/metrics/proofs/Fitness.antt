@@ -12,7 +12,7 @@ use lib.Ieee.Bits.{ofBits-fits}
 use borrow.Author.Tests.{leb-true}
 use Rattle.rules.specs.declared.Distance.{Distance}
 use Rattle.rules.specs.declared.Distance.the-variants.{Fit, Unfit}
-use Rattle.rules.specs.Distance.{lane, totalOf, fit, answer, largest, zero32, distanceOf, unfit, carried, lanesOf, nodesApart, between}
+use Rattle.rules.specs.Distance.{lane, totalOf, fit, answer, largest, zero32, distanceOf, unfit, carried, lanesOf, nodesApart, queryApart, between}
 
 -- ---- any total
 
@@ -74,6 +74,25 @@ between-fit lanes dimension i j = carried-fit (lanesOf lanes dimension i) (lanes
 pub between-fits : (lanes : List Float) (dimension i j : ℕ) → T (fits binary32 (between lanes dimension i j))
 unfolding between nodesApart
 between-fits lanes dimension i j = carried-fits (lanesOf lanes dimension i) (lanesOf lanes dimension j)
+
+-- what any distance answer that carries a distance says of it
+module _ (a b : List Float) (x : Float) (e : distanceOf a b ≡ Fit x) where
+  pub distance-fit : fit x ≡ true
+  unfolding carried
+  distance-fit = rw e at (carried-fit a b)
+
+  pub distance-fits : T (fits binary32 x)
+  unfolding carried
+  distance-fits = rw e at (carried-fits a b)
+
+module _ (lanes : List Float) (dimension : ℕ) (query : List Float) (i : ℕ) (x : Float) (e : queryApart lanes dimension query i ≡ Fit x) where
+  pub query-fit : fit x ≡ true
+  unfolding queryApart
+  query-fit = distance-fit (lanesOf lanes dimension i) query x e
+
+  pub query-fits : T (fits binary32 x)
+  unfolding queryApart
+  query-fits = distance-fits (lanesOf lanes dimension i) query x e
 
 -- an answer that is not unfit is the one that carries its distance
 pub is-carried : (d : Distance) → unfit d ≡ false → d ≡ Fit (carried d)

@@ -13,7 +13,7 @@ use borrow.Author.Tests.{lt-ltb, le-ltb, ltb-false}
 use Rattle.rules.specs.declared.Distance.{Distance}
 use Rattle.rules.specs.declared.Distance.the-variants.{Fit}
 use Rattle.rules.specs.Distance.{totalOf, zero32, distanceOf, unfit, lanesOf, nodesApart, between}
-use Rattle.rules.specs.Refusals.{passed, refused, code, decide, row10, unfitAfter, firstUnfit}
+use Rattle.rules.specs.Refusals.{Row, Code, passed, refused, code, decide, row10, unfitAfter, firstUnfit}
 use Rattle.metrics.specs.Finite.{AllFinite}
 use Rattle.metrics.proofs.Steps.{lanes-long, room}
 use Rattle.metrics.proofs.First.{none-before}
@@ -21,6 +21,26 @@ use Rattle.metrics.proofs.Symmetry.{apart-symmetric}
 use Rattle.metrics.proofs.Fitness.{is-carried, answer-fit}
 use Rattle.metrics.proofs.Finite.{fit-finite, of-total}
 use Rattle.metrics.proofs.Self.{between-self}
+
+-- ---- a row decided by itself, in front of others
+
+pub goes-on : (r : Row) (rs : List Row) → decide (r ∷ []) ≡ passed → decide (r ∷ rs) ≡ decide rs
+unfolding decide
+goes-on r rs h = go (r .test) h
+  where
+    go : (b : Bool) → cond b (refused (r .gives)) passed ≡ passed → cond b (refused (r .gives)) (decide rs) ≡ decide rs
+    go true h = let z : _≡_ {A = ℕ} 0 1 = cc in absurd (omega arith)
+    go false h = refl
+
+pub stops : (r : Row) (rs : List Row) (c : Code) → decide (r ∷ []) ≡ refused c → decide (r ∷ rs) ≡ refused c
+unfolding decide
+stops r rs c h = go (r .test) h
+  where
+    go : (b : Bool) → cond b (refused (r .gives)) passed ≡ refused c → cond b (refused (r .gives)) (decide rs) ≡ refused c
+    go true h = h
+    go false h = let z : _≡_ {A = ℕ} 0 1 = cc in absurd (omega arith)
+
+-- ---- row 10
 
 module _ (apart : ℕ → ℕ → Distance) (n : ℕ) where
   pub refuses : (i j : ℕ) → i < n → firstUnfit apart n ≡ i → unfitAfter apart n i ≡ j → decide (row10 apart n ∷ []) ≡ refused (code 10 i j)

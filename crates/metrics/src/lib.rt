@@ -53,7 +53,7 @@ pub fn metric(a: &[f32], b: &[f32]) -> Distance
     Distance::Unfit
 }
 
-/// The distance answer of a node and a query.
+/// The distance answer of a node and a query (hora's `Node::metric`).
 pub fn query_distance(lanes: &[f32], dimension: usize, query: &[f32], i: NodeId) -> Distance
     requires { ⌜ (length (now query) ≡ dimension) × ((i .0 + 1) * dimension ≤ length (now lanes)) ⌝ }
     ensures { λ r. ⌜ r ≡ queryApart (now (lanes .entry)) dimension (now (query .entry)) (i .0) ⌝ }
@@ -62,7 +62,7 @@ pub fn query_distance(lanes: &[f32], dimension: usize, query: &[f32], i: NodeId)
     metric(x, query)
 }
 
-/// The distance answer of two nodes.
+/// The distance answer of two nodes (hora's `Node::metric`).
 pub fn node_distance(lanes: &[f32], dimension: usize, i: NodeId, j: NodeId) -> Distance
     requires { ⌜ ((i .0 + 1) * dimension ≤ length (now lanes)) × ((j .0 + 1) * dimension ≤ length (now lanes)) ⌝ }
     ensures { λ r. ⌜ r ≡ nodesApart (now (lanes .entry)) dimension (i .0) (j .0) ⌝ }
@@ -92,7 +92,7 @@ pub fn carried(distance: Distance) -> f32
     }
 }
 
-/// The distance of two nodes, once row 10 has passed (hora's `metric` of two of `self.nodes`).
+/// The distance of two nodes, once row 10 has passed (hora's `metric(..).unwrap()`).
 pub fn between(lanes: &[f32], dimension: usize, i: NodeId, j: NodeId) -> f32
     requires { ⌜ ((i .0 + 1) * dimension ≤ length (now lanes)) × ((j .0 + 1) * dimension ≤ length (now lanes)) ⌝ }
     ensures { λ r. ⌜ r ≡ between (now (lanes .entry)) dimension (i .0) (j .0) ⌝ }
