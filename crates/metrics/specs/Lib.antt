@@ -1,0 +1,3 @@
+-- What the contracts of the distances say, as records.
+pub mod Measured
+pub mod Finite

@@ -1,0 +1,2 @@
+-- What is proved of the parameters, beside the functions.
+pub mod Setters
