@@ -16,7 +16,7 @@ use Rattle.rules.specs.Lists.{insert, place, insertAll, sort, least}
 use Rattle.neighbor.specs.Holdable.{Holdable}
 use Rattle.neighbor.proofs.Order.{asymmetric, transitive, total}
 use Rattle.lists.specs.Ascending.{AllHoldable, NoneBefore, Ascending, Perm, same, next, exchange, chain}
-use Rattle.lists.proofs.Loops.{through-append}
+use Rattle.rules.proofs.Loops.{through-append}
 use Rattle.lists.proofs.Perm.{perm-first, perm-front}
 
 -- ---- where an entry goes

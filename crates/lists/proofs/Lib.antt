@@ -1,5 +1,4 @@
--- `Loops`: loops in general. `Perm`: rearranged lists. `Laws`: of `insert`, `sort` and `least`. `Slices`: of a list in two slices.
-pub mod Loops
+-- `Perm`: rearranged lists. `Laws`: of `insert`, `sort` and `least`. `Slices`: of a list in two slices.
 pub mod Perm
 pub mod Laws
 pub mod Slices

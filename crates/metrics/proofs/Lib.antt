@@ -1,7 +1,6 @@
--- What is proved of distances, beside the functions. `Steps`: what the functions lean on. `First`: the first place of a loop.
+-- What is proved of distances, beside the functions. `Steps`: what the functions lean on.
 -- `Symmetry`, `Fitness`, `Self`: the distance itself. `Pairs`: row 10 of all pairs.
 pub mod Steps
-pub mod First
 pub mod Symmetry
 pub mod Fitness
 pub mod Finite

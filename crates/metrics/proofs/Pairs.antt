@@ -16,29 +16,11 @@ use Rattle.rules.specs.Distance.{totalOf, zero32, distanceOf, unfit, lanesOf, n
 use Rattle.rules.specs.Refusals.{Row, Code, passed, refused, code, decide, row10, unfitAfter, firstUnfit}
 use Rattle.metrics.specs.Finite.{AllFinite}
 use Rattle.metrics.proofs.Steps.{lanes-long, room}
-use Rattle.metrics.proofs.First.{none-before}
+use Rattle.rules.proofs.Loops.{first-before}
 use Rattle.metrics.proofs.Symmetry.{apart-symmetric}
 use Rattle.metrics.proofs.Fitness.{is-carried, answer-fit}
 use Rattle.metrics.proofs.Finite.{fit-finite, of-total}
 use Rattle.metrics.proofs.Self.{between-self}
-
--- ---- a row decided by itself, in front of others
-
-pub goes-on : (r : Row) (rs : List Row) → decide (r ∷ []) ≡ passed → decide (r ∷ rs) ≡ decide rs
-unfolding decide
-goes-on r rs h = go (r .test) h
-  where
-    go : (b : Bool) → cond b (refused (r .gives)) passed ≡ passed → cond b (refused (r .gives)) (decide rs) ≡ decide rs
-    go true h = let z : _≡_ {A = ℕ} 0 1 = cc in absurd (omega arith)
-    go false h = refl
-
-pub stops : (r : Row) (rs : List Row) (c : Code) → decide (r ∷ []) ≡ refused c → decide (r ∷ rs) ≡ refused c
-unfolding decide
-stops r rs c h = go (r .test) h
-  where
-    go : (b : Bool) → cond b (refused (r .gives)) passed ≡ refused c → cond b (refused (r .gives)) (decide rs) ≡ refused c
-    go true h = h
-    go false h = let z : _≡_ {A = ℕ} 0 1 = cc in absurd (omega arith)
 
 -- ---- row 10
 
@@ -64,9 +46,9 @@ module _ (apart : ℕ → ℕ → Distance) (n : ℕ) where
   unfolding firstUnfit unfitAfter
   all-fit h i j l m =
       let first : n ≤ firstUnfit apart n = none-unfit h in
-      let row : ltb (unfitAfter apart n i) n ≡ false = none-before (λ (i : ℕ). ltb (unfitAfter apart n i) n) 0 n i (omega arith) (omega arith) in
+      let row : ltb (unfitAfter apart n i) n ≡ false = first-before (λ (i : ℕ). ltb (unfitAfter apart n i) n) 0 n i (omega arith) (omega arith) in
       let after : n ≤ unfitAfter apart n i = ltb-false (unfitAfter apart n i) n row in
-      none-before (λ (j : ℕ). unfit (apart i j)) (suc i) (n - suc i) j l (omega arith)
+      first-before (λ (j : ℕ). unfit (apart i j)) (suc i) (n - suc i) j l (omega arith)
 
 -- ---- the distances that build, begin and iteration are told of, once the row has passed
 

@@ -12,7 +12,7 @@ use denote.Ref.{now}
 use Rattle.rules.specs.Loops.{firstFrom}
 use Rattle.rules.specs.Distance.{nodesApart}
 use Rattle.rules.specs.Refusals.{unfitAfter, firstUnfit, decisionOf, codeOf}
-use Rattle.metrics.proofs.First.{begun, next, found, ended}
+use Rattle.rules.proofs.Loops.{first-begun, first-turn, first-here, first-end}
 use Rattle.metrics.proofs.Pairs.{refuses, passes}
 use Rattle.metrics.proofs.first_unfit.Statement.{statement}
 use Rattle.metrics.proofs.first_unfit.Tie as tie
@@ -29,7 +29,7 @@ abbrev μ-loop : tie.MeasureT-loop
 
 loop-holds : tie.Need-loop-holds Inv-loop μ-loop
 unfolding firstUnfit
-loop-holds c = (search needs, begun _ (c .before .args .n))
+loop-holds c = (search needs, first-begun _ (c .before .args .n) 0)
 
 cast-t7 : tie.Need-cast-t7 Inv-loop μ-loop
 cast-t7 c = omega arith
@@ -53,7 +53,7 @@ unfolding decisionOf codeOf
 returns c =
     let at = c .before .before .before in
     let n = at .before .before .args .n in
-    let f = found _ (at .loop .i) n (omega arith) (tested (c .before) true (lt-ltb _ _ (c .if1 .taken))) in
+    let f = first-here _ n (at .loop .i) (omega arith) (tested (c .before) true (lt-ltb _ _ (c .if1 .taken))) in
     sym (refuses _ n (at .loop .i) (c .before .unfit-after .result) (omega arith) (sym (at .loop .inv .1) ∙ f) (sym (c .before .unfit-after .ensures)))
 
 add-i : tie.Need-add-i Inv-loop μ-loop
@@ -65,14 +65,14 @@ loop-less c = omega arith
 loop-again : tie.Need-loop-again Inv-loop μ-loop
 loop-again c =
     let at = c .before .before .before in
-    (omega arith, next _ (at .loop .i) (at .before .before .args .n) (omega arith) (tested (c .before) false (le-ltb _ _ (c .if1 .left))) ∙ at .loop .inv .1)
+    (omega arith, first-turn _ (at .before .before .args .n) (at .loop .i) (omega arith) (tested (c .before) false (le-ltb _ _ (c .if1 .left))) ∙ at .loop .inv .1)
 
 returns-2 : tie.Need-returns-2 Inv-loop μ-loop
 unfolding decisionOf
 returns-2 c =
     let at = c .before in
     let n = at .before .before .args .n in
-    let f = ended (test (now (at .before .before .args .lanes)) (at .before .before .args .dimension) n) (at .loop .i) n (omega arith) in
+    let f = first-end (test (now (at .before .before .args .lanes)) (at .before .before .args .dimension) n) n (at .loop .i) (omega arith) in
     let e : firstUnfit (nodesApart (now (at .before .before .args .lanes)) (at .before .before .args .dimension)) n ≡ at .loop .i = sym (at .loop .inv .1) ∙ f in
     sym (passes _ n (omega arith))
 

@@ -12,7 +12,7 @@ use Rattle.rules.specs.Loops.{firstFrom}
 use Rattle.rules.specs.Distance.{unfit, nodesApart}
 use Rattle.rules.specs.Refusals.{unfitAfter}
 use Rattle.metrics.proofs.Steps.{room}
-use Rattle.metrics.proofs.First.{next, found, ended}
+use Rattle.rules.proofs.Loops.{first-turn, first-here, first-end}
 use Rattle.metrics.proofs.unfit_after.Statement.{statement}
 use Rattle.metrics.proofs.unfit_after.Tie as tie
 
@@ -55,7 +55,7 @@ tested c b e = ap unfit (sym (c .before .node-distance .ensures)) ∙ sym (c .un
 returns : tie.Need-returns Inv-loop μ-loop
 returns c =
     let at = c .before .before .before .before in
-    let f = found _ (at .loop .j) (at .before .before .before .args .n) (omega arith) (tested (c .before) true (c .if1 .taken)) in
+    let f = first-here _ (at .before .before .before .args .n) (at .loop .j) (omega arith) (tested (c .before) true (c .if1 .taken)) in
     sym f ∙ at .loop .inv .1
 
 add-j-2 : tie.Need-add-j-2 Inv-loop μ-loop
@@ -67,12 +67,12 @@ loop-less c = omega arith
 loop-again : tie.Need-loop-again Inv-loop μ-loop
 loop-again c =
     let at = c .before .before .before .before in
-    (omega arith, next _ (at .loop .j) (at .before .before .before .args .n) (omega arith) (tested (c .before) false (c .if1 .left)) ∙ at .loop .inv .1)
+    (omega arith, first-turn _ (at .before .before .before .args .n) (at .loop .j) (omega arith) (tested (c .before) false (c .if1 .left)) ∙ at .loop .inv .1)
 
 returns-2 : tie.Need-returns-2 Inv-loop μ-loop
 returns-2 c =
     let at = c .before in
-    let f = ended _ (at .loop .j) (at .before .before .before .args .n) (omega arith) in
+    let f = first-end _ (at .before .before .before .args .n) (at .loop .j) (omega arith) in
     sym f ∙ at .loop .inv .1
 
 pub unfit-after-spec : {M : Type 1} → statement M

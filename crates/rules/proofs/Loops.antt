@@ -142,6 +142,9 @@ module _ (p : ℕ → Bool) (n i : ℕ) where
   pub first-turn : i < n → p i ≡ false → firstFrom p (i + 1) (n - (i + 1)) ≡ firstFrom p i (n - i)
   unfolding firstFrom
   first-turn h e = let s : n - i ≡ suc (n - suc i) = omega arith in rw (s, add-one) (simp e)
+
+  pub first-begun : firstFrom p i (n - 0) ≡ firstFrom p i n
+  first-begun = ap (firstFrom p i) (let e : n - 0 ≡ n = omega arith in e)
 
   pub first-end : n ≤ i → firstFrom p i (n - i) ≡ i
   unfolding firstFrom

@@ -1,0 +1,84 @@
+-- Rows and verdicts: which row decides, and what it is that none holds. Assumes nothing.
+use mathlib.Core.Path.{_≡_, refl, sym, ap, _∙_}
+use mathlib.Core.Bool.{Bool, true, false, cond, not, _&&_, _||_}
+use mathlib.Core.List.{List, [], _∷_, _++_}
+use Prim.Native.Nat.{ℕ, _≤_, _<_}
+use native.Mathlib.Omega.{arith}
+use borrow.Author.Tests.{ltb-false}
+use lib.Dec.{ltb}
+use Rattle.rules.specs.Loops.{anyOf}
+use Rattle.rules.specs.Numbers.{outside}
+use Rattle.rules.specs.Refusals.{Row, Code, Decision, passed, refused, decide, holds}
+
+-- ---- a row in front of others
+
+pub goes-on : (r : Row) (rs : List Row) → decide (r ∷ []) ≡ passed → decide (r ∷ rs) ≡ decide rs
+unfolding decide
+goes-on r rs h = go (r .test) h
+  where
+    go : (b : Bool) → cond b (refused (r .gives)) passed ≡ passed → cond b (refused (r .gives)) (decide rs) ≡ decide rs
+    go true h = let z : _≡_ {A = ℕ} 0 1 = cc in absurd (omega arith)
+    go false h = refl
+
+pub stops : (r : Row) (rs : List Row) (c : Code) → decide (r ∷ []) ≡ refused c → decide (r ∷ rs) ≡ refused c
+unfolding decide
+stops r rs c h = go (r .test) h
+  where
+    go : (b : Bool) → cond b (refused (r .gives)) passed ≡ refused c → cond b (refused (r .gives)) (decide rs) ≡ refused c
+    go true h = h
+    go false h = let z : _≡_ {A = ℕ} 0 1 = cc in absurd (omega arith)
+
+-- no row holds: not the first, and none of the others
+pub passes : (r : Row) (rs : List Row) → decide (r ∷ rs) ≡ passed → (r .test ≡ false) × (decide rs ≡ passed)
+unfolding decide
+passes r rs h = go (r .test) refl h
+  where
+    go : (b : Bool) → r .test ≡ b → cond b (refused (r .gives)) (decide rs) ≡ passed → (r .test ≡ false) × (decide rs ≡ passed)
+    go true e h = let z : _≡_ {A = ℕ} 0 1 = cc in absurd (omega arith)
+    go false e h = (e, h)
+
+-- a row that holds decides; one that does not leaves it to the others
+pub held : (r : Row) (rs : List Row) → r .test ≡ true → decide (r ∷ rs) ≡ refused (r .gives)
+unfolding decide
+held r rs e = rw e
+
+pub left : (r : Row) (rs : List Row) → r .test ≡ false → decide (r ∷ rs) ≡ decide rs
+unfolding decide
+left r rs e = rw e
+
+-- rows behind rows
+pub decide-append : (rs qs : List Row) → decide rs ≡ passed → decide (rs ++ qs) ≡ decide qs
+decide-append [] qs h = refl
+decide-append (r ∷ rs) qs h =
+    let p = passes r rs h in left r (rs ++ qs) (p .0) ∙ decide-append rs qs (p .1)
+
+pub decide-before : (rs qs : List Row) (c : Code) → decide rs ≡ refused c → decide (rs ++ qs) ≡ refused c
+unfolding decide
+decide-before [] qs c h = let z : _≡_ {A = ℕ} 0 1 = cc in absurd (omega arith)
+decide-before (r ∷ rs) qs c h = go (r .test) (decide-before rs qs c) h
+  where
+    go : (b : Bool) → (decide rs ≡ refused c → decide (rs ++ qs) ≡ refused c) → cond b (refused (r .gives)) (decide rs) ≡ refused c → cond b (refused (r .gives)) (decide (rs ++ qs)) ≡ refused c
+    go true more h = h
+    go false more h = more h
+
+-- ---- the tests of a row with several
+
+pub none-of : (b : Bool) (bs : List Bool) → anyOf holds (b ∷ bs) ≡ false → (b ≡ false) × (anyOf holds bs ≡ false)
+unfolding anyOf
+none-of true bs h = let z : _≡_ {A = ℕ} 0 1 = cc in absurd (omega arith)
+none-of false bs h = (refl, h)
+
+-- ---- ranges
+
+pub record Within (low high x : ℕ) : Type 0 where
+  pub from : low ≤ x
+  pub to : x ≤ high
+
+pub within : (low high x : ℕ) → outside low high x ≡ false → Within low high x
+unfolding outside
+within low high x h = go (ltb x low) (ltb high x) refl refl h
+  where
+    go : (a b : Bool) → ltb x low ≡ a → ltb high x ≡ b → (a || b) ≡ false → Within low high x
+    go true b p q e = let z : _≡_ {A = ℕ} 0 1 = cc in absurd (omega arith)
+    go false true p q e = let z : _≡_ {A = ℕ} 0 1 = cc in absurd (omega arith)
+    go false false p q e = record { from = ltb-false x low p; to = ltb-false high x q }
