@@ -1,0 +1,3 @@
+-- A search's walk in lent scratch.
+pub mod Areas
+pub mod Steps
