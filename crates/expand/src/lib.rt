@@ -1,12 +1,13 @@
-// The walk of a search, over areas of lent scratch: flags, queue, best set, and the entries found in a row.
+// A node of a search's walk expanded, over areas of lent scratch: flags, queue, best set, and the entries found in its row.
 ghost use mathlib.Core.Path.{_≡_};
 ghost use mathlib.Core.List.{[], _∷_};
 ghost use Prim.Native.Nat.{_+_, _≤_, _<_};
 ghost use lib.ListN.{length};
 ghost use Rattle.rules.specs.Distance.{queryApart};
 ghost use Rattle.rules.specs.Rows.{liveNodes};
-ghost use Rattle.walk.specs.Areas.{Room};
-ghost use Rattle.walk.specs.Steps.{Lanes, WorkedOut, Visited, Joined, TakenIn};
+ghost use Rattle.expand.specs.Areas.{Room};
+ghost use Rattle.expand.specs.Steps.{Lanes, WorkedOut, Visited, Joined, TakenIn};
+ghost use Rattle.expand.specs.Queue.{Rows, QueueSound, Expanded};
 use rules::Distance;
 use rules::Neighbor;
 use rules::NodeId;
@@ -74,7 +75,7 @@ fn visit(
 }
 
 /// Visits the members of a row, up to its first value of n or more.
-pub fn visit_row(
+fn visit_row(
     lanes: &[f32],
     dimension: usize,
     n: usize,
@@ -156,4 +157,37 @@ fn take_these(
         i += 1;
     }
     end
+}
+
+/// Takes the next node from the queue, of which `takings` have been taken, and expands it; counts the queue's new length.
+pub fn expand(
+    lanes: &[f32],
+    dimension: usize,
+    n: usize,
+    query: &[f32],
+    graph: &[u32],
+    index_size: usize,
+    words: &mut [u32],
+    floats: &mut [f32],
+    m: usize,
+    takings: usize,
+    tail: usize,
+) -> Counted
+    requires { ⌜ Lanes (now lanes) dimension n (now query) ⌝ }
+    requires { ⌜ Rows n (now graph) «index_size» ⌝ }
+    requires { ⌜ Room n (now words) (now floats) ⌝ }
+    requires { ⌜ QueueSound n (now words) tail ⌝ }
+    requires { ⌜ (1 ≤ m) × (m ≤ 64) × (takings < tail) ⌝ }
+    ensures { λ r. ⌜ Expanded (queryApart (now (lanes .entry)) dimension (now (query .entry))) n (now (graph .entry)) «index_size» m takings tail (now (words .entry)) (now (floats .entry)) (now (words .exit)) (now (floats .exit)) r ⌝ }
+{
+    let at = n + takings;
+    let q = words[at] as usize;
+    let from = q * index_size;
+    let to = from + index_size;
+    let r = visit_row(lanes, dimension, n, query, &graph[from..to], words, floats);
+    let Counted::Count(len) = r else {
+        return r;
+    };
+    let end = take_these(n, words, floats, m, len, tail);
+    Counted::Count(end)
 }

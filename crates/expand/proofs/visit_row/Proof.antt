@@ -1,13 +1,13 @@
--- `walk::visit_row` meets its contract: what is left of the row gives the whole. Assumes nothing.
+-- `expand::visit_row` meets its contract: what is left of the row gives the whole. Assumes nothing.
 use Prim.Native.Nat.{ℕ, _+_, _-_, _≤_, _<_}
 use native.Mathlib.Omega.{arith}
 use lib.ListN.{length}
 use Rattle.rules.specs.Distance.{queryApart}
-use Rattle.walk.proofs.Areas.{room-kept}
-use Rattle.walk.proofs.Steps.{Visiting, visiting-none, visiting-end, visiting-stop, visiting-more, visiting-unfit}
+use Rattle.expand.proofs.Areas.{room-kept}
+use Rattle.expand.proofs.Steps.{Visiting, visiting-none, visiting-end, visiting-stop, visiting-more, visiting-unfit}
 use borrow.Author.Needs.{needs}
-use Rattle.walk.proofs.visit_row.Statement.{statement}
-use Rattle.walk.proofs.visit_row.Tie as tie
+use Rattle.expand.proofs.visit_row.Statement.{statement}
+use Rattle.expand.proofs.visit_row.Tie as tie
 
 abbrev Inv-loop : tie.InvT-loop
 Inv-loop lanes dimension n query row words₀ floats₀ len₀ j₀ words floats len j = Visiting (queryApart lanes dimension query) n row words₀ floats₀ words floats len j

@@ -1,11 +1,11 @@
--- `walk::visit` meets its contract. Assumes nothing.
-use Rattle.walk.proofs.Areas.{room-kept}
+-- `expand::visit` meets its contract. Assumes nothing.
+use Rattle.expand.proofs.Areas.{room-kept}
 use mathlib.Core.Path.{refl, _∙_}
 use lib.ListN.{length-set}
-use Rattle.walk.proofs.Steps.{visited-before, visited-now}
+use Rattle.expand.proofs.Steps.{visited-before, visited-now}
 use borrow.Author.Needs.{needs}
-use Rattle.walk.proofs.visit.Statement.{statement}
-use Rattle.walk.proofs.visit.Tie as tie
+use Rattle.expand.proofs.visit.Statement.{statement}
+use Rattle.expand.proofs.visit.Tie as tie
 
 cast-at : tie.Need-cast-at
 cast-at c = search needs

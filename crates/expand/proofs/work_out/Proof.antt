@@ -1,13 +1,13 @@
--- `walk::work_out` meets its contract. Assumes nothing.
+-- `expand::work_out` meets its contract. Assumes nothing.
 use mathlib.Core.Path.{_≡_, sym, _∙_}
 use Prim.Native.Nat.{_+_, _-_}
 use native.Mathlib.Omega.{arith}
 use Rattle.metrics.proofs.Steps.{room}
-use Rattle.walk.proofs.Areas.{found-pushed-by}
-use Rattle.walk.proofs.Steps.{worked-fit, worked-unfit}
+use Rattle.expand.proofs.Areas.{found-pushed-by}
+use Rattle.expand.proofs.Steps.{worked-fit, worked-unfit}
 use borrow.Author.Needs.{needs}
-use Rattle.walk.proofs.work_out.Statement.{statement}
-use Rattle.walk.proofs.work_out.Tie as tie
+use Rattle.expand.proofs.work_out.Statement.{statement}
+use Rattle.expand.proofs.work_out.Tie as tie
 
 query-distance-requires : tie.Need-query-distance-requires
 query-distance-requires c κs =

@@ -1,12 +1,12 @@
--- `walk::join` meets its contract. Assumes nothing.
+-- `expand::join` meets its contract. Assumes nothing.
 use mathlib.Core.Path.{_≡_}
 use Prim.Native.Nat.{_+_, _-_}
 use native.Mathlib.Omega.{arith}
-use Rattle.walk.proofs.Areas.{best-pushed-by}
-use Rattle.walk.proofs.Steps.{joined}
+use Rattle.expand.proofs.Areas.{best-pushed-by}
+use Rattle.expand.proofs.Steps.{joined}
 use borrow.Author.Needs.{needs}
-use Rattle.walk.proofs.join.Statement.{statement}
-use Rattle.walk.proofs.join.Tie as tie
+use Rattle.expand.proofs.join.Statement.{statement}
+use Rattle.expand.proofs.join.Tie as tie
 
 add-from : tie.Need-add-from
 add-from c = search needs

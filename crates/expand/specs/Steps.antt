@@ -7,9 +7,9 @@ use lib.Ieee.{Float}
 use Rattle.rules.specs.declared.Distance.{Distance}
 use Rattle.rules.specs.declared.Neighbor.{Neighbor}
 use Rattle.rules.specs.Search.{Walk, Going, on, unfitAt, Found, Taken, andThen, worksOut, visit, visits, joins, takeThese, walk}
-use Rattle.walk.specs.declared.Counted.{Counted}
-use Rattle.walk.specs.declared.Counted.the-variants.{Count, Unfit}
-use Rattle.walk.specs.Areas.{seenIn, queueIn, bestIn, foundIn, QueueKept, FoundKept}
+use Rattle.expand.specs.declared.Counted.{Counted}
+use Rattle.expand.specs.declared.Counted.the-variants.{Count, Unfit}
+use Rattle.expand.specs.Areas.{seenIn, queueIn, bestIn, foundIn, QueueKept, FoundKept}
 
 -- what every step may count on: lanes of n nodes, and a query of as many lanes
 pub record Lanes (lanes : List Float) (dimension n : ℕ) (query : List Float) : Type 0 where

@@ -1,12 +1,12 @@
--- `walk::take_these` meets its contract: what is left of the entries gives the whole. Assumes nothing.
+-- `expand::take_these` meets its contract: what is left of the entries gives the whole. Assumes nothing.
 use Prim.Native.Nat.{ℕ, _+_, _-_, _≤_, _<_}
 use native.Mathlib.Omega.{arith}
 use lib.ListN.{length}
-use Rattle.walk.proofs.Areas.{room-kept}
-use Rattle.walk.proofs.Steps.{Taking, taking-none, taking-stop, taking-more, taking-end}
+use Rattle.expand.proofs.Areas.{room-kept}
+use Rattle.expand.proofs.Steps.{Taking, taking-none, taking-stop, taking-more, taking-end}
 use borrow.Author.Needs.{needs}
-use Rattle.walk.proofs.take_these.Statement.{statement}
-use Rattle.walk.proofs.take_these.Tie as tie
+use Rattle.expand.proofs.take_these.Statement.{statement}
+use Rattle.expand.proofs.take_these.Tie as tie
 
 abbrev Inv-loop : tie.InvT-loop
 Inv-loop n words₀ floats₀ m len tail end₀ i₀ words floats end i = Taking n m len tail words₀ floats₀ words floats end i

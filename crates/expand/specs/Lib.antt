@@ -1,0 +1,4 @@
+-- A node expanded in lent scratch.
+pub mod Areas
+pub mod Steps
+pub mod Queue

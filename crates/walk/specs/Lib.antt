@@ -1,3 +1,0 @@
--- A search's walk in lent scratch.
-pub mod Areas
-pub mod Steps
