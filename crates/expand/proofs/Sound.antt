@@ -97,6 +97,11 @@ unfolding Whenever worksOut
 pushes apart n v es (Fit x) h = (length-insert (neighbor v x) es, below-insert n (neighbor v x) es h)
 pushes apart n v es Unfit h = tt
 
+pub pushes-below : (apart : ℕ → Distance) (n v : ℕ) (es : List Neighbor) (d : Distance) → v < n → AllBelow n (nodesOf es) → Whenever (λ (fs : List Neighbor). AllBelow n (nodesOf fs)) (worksOut apart v es d)
+unfolding Whenever worksOut
+pushes-below apart n v es (Fit x) h b = below-insert n (neighbor v x) es h b
+pushes-below apart n v es Unfit h b = tt
+
 grown-visit : (apart : ℕ → Distance) (n v : ℕ) (f₀ f : Found) → v < n → Grown n f₀ f → Whenever (Grown n f₀) (visit apart v f)
 unfolding visit Whenever
 grown-visit apart n v f₀ f h g = go (isSeen v (f .seen)) refl

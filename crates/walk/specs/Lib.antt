@@ -1,0 +1,2 @@
+-- A search's walk in lent scratch.
+pub mod Walks
