@@ -1,0 +1,2 @@
+-- `Laws`: what the loops lean on.
+pub mod Laws

@@ -1,0 +1,18 @@
+-- `table::outside` meets its contract. Assumes nothing.
+use mathlib.Core.Path.{refl}
+use borrow.Author.Tests.{lt-ltb, le-ltb}
+use Rattle.rules.specs.Numbers.{outside}
+use borrow.Author.Needs.{needs}
+use Rattle.table.proofs.outside.Statement.{statement}
+use Rattle.table.proofs.outside.Tie as tie
+
+returns : tie.Need-returns
+unfolding outside
+returns c = rw (lt-ltb _ _ (c .if1 .taken))
+
+returns-2 : tie.Need-returns-2
+unfolding outside
+returns-2 c = rw (le-ltb _ _ (c .if1 .left))
+
+pub outside-spec : {M : Type 1} → statement M
+outside-spec = tie.close (tie.spec returns returns-2)
