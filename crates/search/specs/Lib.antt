@@ -1,0 +1,2 @@
+-- The entry `search`.
+pub mod Search
