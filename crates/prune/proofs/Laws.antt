@@ -2,21 +2,22 @@
 use mathlib.Core.Path.{_≡_, refl, sym, ap, _∙_}
 use mathlib.Core.Bool.{Bool, true, false, cond, not, _&&_, _||_}
 use mathlib.Core.List.{List, [], _∷_, _++_}
-use Prim.Native.Nat.{ℕ, zero, suc, _+_, _-_, _≤_, _<_, zero-le}
+use Prim.Native.Nat.{ℕ, zero, suc, _+_, _≤_, _<_, zero-le, suc-le-suc}
 use native.Mathlib.Nat.{le-of-suc-le-suc, not-suc-le-zero}
 use native.Mathlib.Numerals.{add-one}
 use native.Mathlib.Omega.{arith}
 use lib.Dec.{eqb, ltb}
-use lib.ListN.{length, take, drop, getD, set, length-append, length-set}
-use lib.Seq.{drop-drop, drop-set-lt, take-set-le, getD-set-same}
+use lib.ListN.{length, drop, getD, set, length-append, length-set}
+use lib.Seq.{drop-set-lt, take-set-le, getD-set-same}
 use lib.Ieee.{Float, lt}
 use borrow.Author.Tests.{lt-ltb, le-ltb, eq-eqb, ne-eqb}
 use Rattle.rules.specs.declared.Neighbor.{Neighbor}
 use Rattle.rules.specs.Loops.{through, anyOf}
-use Rattle.rules.specs.Lists.{neighbor, nodeOf, entries}
+use Rattle.rules.specs.Lists.{neighbor, nodeOf, entries, sort}
 use Rattle.rules.specs.Build.{cosine, occludes, keep, choose, Between}
 use Rattle.rules.proofs.Loops.{through-end, any-end}
 use Rattle.lists.proofs.Slices.{length-entries, drop-entries, entries-suc, entries-same}
+use Rattle.lists.proofs.Plain.{drop-later, all-append, all-sort}
 use Rattle.prune.specs.Chosen.{AllBelow, Kept, Chosen}
 
 -- ---- one entry against another
@@ -41,15 +42,6 @@ module _ (d : Between) (t : Float) (b : Bool) (p r : Neighbor) where
 
 -- ---- nodes below n
 
-pub below-append : (n : ℕ) (xs ys : List Neighbor) → AllBelow n xs → AllBelow n ys → AllBelow n (xs ++ ys)
-below-append n [] ys X Y = Y
-below-append n (x ∷ xs) ys X Y = (X .0, below-append n xs ys (X .1) Y)
-
-pub below-at : (n : ℕ) (xs : List Neighbor) (i : ℕ) (z : Neighbor) → AllBelow n xs → i < length xs → nodeOf (getD xs i z) < n
-below-at n [] i z X h = absurd (not-suc-le-zero h)
-below-at n (x ∷ xs) zero z X h = X .0
-below-at n (x ∷ xs) (suc i) z X h = below-at n xs i z (X .1) (le-of-suc-le-suc h)
-
 -- the entry at place i of two slices
 pub below-entry : (n len i : ℕ) (ns : List ℕ) (ds : List Float) (a : ℕ) → AllBelow n (entries len ns ds) → i < len → len ≤ length ns → len ≤ length ds → getD ns i a < n
 unfolding entries
@@ -58,6 +50,19 @@ below-entry n (suc len) i [] ds a X l h k = absurd (not-suc-le-zero h)
 below-entry n (suc len) i (x ∷ ns) [] a X l h k = absurd (not-suc-le-zero k)
 below-entry n (suc len) zero (x ∷ ns) (y ∷ ds) a X l h k = X .0
 below-entry n (suc len) (suc i) (x ∷ ns) (y ∷ ds) a X l h k = below-entry n len i ns ds a (X .1) (le-of-suc-le-suc l) (le-of-suc-le-suc h) (le-of-suc-le-suc k)
+
+pub below-entries : (n len : ℕ) (ns : List ℕ) (ds : List Float) (a : ℕ) → ((i : ℕ) → i < len → getD ns i a < n) → AllBelow n (entries len ns ds)
+unfolding entries
+below-entries n zero ns ds a f = tt
+below-entries n (suc len) [] ds a f = tt
+below-entries n (suc len) (x ∷ ns) [] a f = tt
+below-entries n (suc len) (x ∷ ns) (y ∷ ds) a f = (f 0 (suc-le-suc zero-le), below-entries n len ns ds a (λ (i : ℕ) (l : i < len). f (suc i) (suc-le-suc l)))
+
+pub below-append : (n : ℕ) (xs ys : List Neighbor) → AllBelow n xs → AllBelow n ys → AllBelow n (xs ++ ys)
+below-append n xs ys X Y = all-append (λ (e : Neighbor). nodeOf e < n) xs ys X Y
+
+pub below-sort : (n : ℕ) (es : List Neighbor) → AllBelow n es → AllBelow n (sort es)
+below-sort n es E = all-sort (λ (e : Neighbor). nodeOf e < n) es E
 
 -- ---- whether a test holds of one of the entries of two slices: at place i
 
@@ -188,12 +193,6 @@ pub record Choosing (f : Neighbor → Neighbor → Bool) (n k len : ℕ) (fs : L
 pub choosing-none : {f : Neighbor → Neighbor → Bool} {n k len : ℕ} {fs : List ℕ} {gs : List Float} {ns : List ℕ} {ds : List Float} → Choosing f n k len fs gs ns ds ns ds 0 0
 unfolding choose entries
 choosing-none = record { within = zero-le; list = refl; below = tt; nodes-rest = refl; dists-rest = refl; nodes-long = refl; dists-long = refl }
-
--- what is the same from one place on is so from a later one on
-drop-later : {A : Type 0} (a b : ℕ) (xs ys : List A) → a ≤ b → drop a xs ≡ drop a ys → drop b xs ≡ drop b ys
-drop-later a b xs ys h e =
-    let m : b ≡ a + (b - a) = omega arith in
-    rw m (sym (drop-drop (b - a) a xs) ∙ ap (drop (b - a)) e ∙ drop-drop (b - a) a ys)
 
 module _ {f : Neighbor → Neighbor → Bool} {n k len : ℕ} {fs : List ℕ} {gs : List Float} {ns₀ : List ℕ} {ds₀ : List Float} {ns : List ℕ} {ds : List Float} {kept i : ℕ} (inv : Choosing f n k len fs gs ns₀ ds₀ ns ds kept i) where
   pub choosing-turn : len ≤ length fs → len ≤ length gs → {ns' : List ℕ} {ds' : List Float} {r : ℕ} (a : ℕ) (d : Float) → i < len → AllBelow n (entries len fs gs)

@@ -1,0 +1,49 @@
+-- `exact::offer` meets its contract: `q` itself, and another node. Assumes nothing.
+use Rattle.exact.proofs.Laws.{offered-self, offered-other}
+use borrow.Author.Needs.{needs}
+use Rattle.exact.proofs.offer.Statement.{statement}
+use Rattle.exact.proofs.offer.Tie as tie
+
+cast-if1 : tie.Need-cast-if1
+cast-if1 c = search needs
+
+returns : tie.Need-returns
+returns c = offered-self (c .before .before .before .before .before .pre .1 .0) (c .if1 .taken)
+
+cast-t11 : tie.Need-cast-t11
+cast-t11 c = search needs
+
+mul-t9 : tie.Need-mul-t9
+mul-t9 c = search needs
+
+shared-slice-read-t14 : tie.Need-shared-slice-read-t14
+shared-slice-read-t14 c = search needs
+
+push-cut-requires : tie.Need-push-cut-requires
+push-cut-requires c κs = search needs
+
+same-length : tie.Need-same-length
+same-length c = search needs
+
+same-length-2 : tie.Need-same-length-2
+same-length-2 c = search needs
+
+returns-2 : tie.Need-returns-2
+returns-2 c =
+    let made = c .before .before .before .before in
+    let other = made .before .before .before .before in
+    offered-other (other .before .before .before .before .before .pre .1 .0) (other .if1 .left) (made .push-cut .ensures)
+
+pub offer-spec : {M : Type 1} → statement M
+offer-spec =
+    tie.close
+    (tie.spec
+    cast-if1
+    returns
+    cast-t11
+    mul-t9
+    shared-slice-read-t14
+    push-cut-requires
+    same-length
+    same-length-2
+    returns-2)

@@ -1,0 +1,102 @@
+// Step 1 of build: the exact list of a node.
+ghost use mathlib.Core.Path.{_≡_};
+ghost use mathlib.Core.List.{reverse};
+ghost use Prim.Native.Nat.{_*_, _≤_, _<_};
+ghost use lib.ListN.{length, take};
+ghost use Rattle.rules.specs.Loops.{over};
+ghost use Rattle.rules.specs.Distance.{between};
+ghost use Rattle.exact.specs.Exact.{distancesFrom, apartIn, Offered, Gathered, Exact};
+use rules::Neighbor;
+use rules::NodeId;
+
+/// Writes the distances of `q` to the nodes 0, 1, .., n - 1 to the first n places of `out`.
+pub fn distances_from(lanes: &[f32], dimension: usize, n: usize, q: NodeId, out: &mut [f32])
+    requires { ⌜ (length (now lanes) ≡ n * dimension) × (n ≤ 4096) × (q .0 < n) × (n ≤ length (now out)) ⌝ }
+    ensures { λ _. ⌜ now (out .exit) ≡ over n (distancesFrom (between (now (lanes .entry)) dimension) n (q .0)) (now (out .entry)) ⌝ }
+{
+    let mut i = 0usize;
+    while i < n {
+        out[i] = metrics::between(lanes, dimension, q, NodeId(i as u32));
+        i += 1;
+    }
+}
+
+// Pushes node `i` with its distance into the list of the first `len` entries, and keeps the least `k`; `q` itself is passed over.
+fn offer(
+    row: &[f32],
+    q: NodeId,
+    i: usize,
+    nodes: &mut [u32],
+    dists: &mut [f32],
+    len: usize,
+    k: usize,
+) -> usize
+    requires { ⌜ (i < 4096) × (i < length (now row)) ⌝ }
+    requires { ⌜ (len ≤ k) × (k ≤ length (now nodes)) × (k ≤ length (now dists)) ⌝ }
+    ensures { λ r. ⌜ Offered (apartIn (now (row .entry))) (q .0) i k (now (nodes .entry)) (now (dists .entry)) len (now (nodes .exit)) (now (dists .exit)) r ⌝ }
+{
+    if i == q.0 as usize {
+        return len;
+    }
+    let e = Neighbor {
+        node: NodeId(i as u32),
+        distance: row[i],
+    };
+    lists::push_cut(nodes, dists, len, k, e)
+}
+
+// Gathers the least `init_k` of the other nodes, nearest first, by the distances in `row`.
+fn gather(
+    row: &[f32],
+    n: usize,
+    q: NodeId,
+    init_k: usize,
+    nodes: &mut [u32],
+    dists: &mut [f32],
+) -> usize
+    requires { ⌜ (n ≤ 4096) × (n ≤ length (now row)) × («init_k» ≤ length (now nodes)) × («init_k» ≤ length (now dists)) ⌝ }
+    ensures { λ r. ⌜ Gathered (apartIn (now (row .entry))) n «init_k» (q .0) (now (nodes .entry)) (now (dists .entry)) (now (nodes .exit)) (now (dists .exit)) r ⌝ }
+{
+    let mut len = 0;
+    let mut i = 0;
+    while i < n {
+        len = offer(row, q, i, nodes, dists, len, init_k);
+        i += 1;
+    }
+    len
+}
+
+// Writes the first `len` of `nodes` to the front of `out`, the last first.
+fn turn_round(nodes: &[u32], len: usize, out: &mut [u32])
+    requires { ⌜ (len ≤ length (now nodes)) × (len ≤ length (now out)) ⌝ }
+    ensures { λ _. ⌜ now (out .exit) ≡ over len (reverse (take len (now (nodes .entry)))) (now (out .entry)) ⌝ }
+{
+    let mut i = 0;
+    while i < len {
+        out[i] = nodes[len - 1 - i];
+        i += 1;
+    }
+}
+
+/// Writes the exact list of `q`, the least `init_k` of the other nodes, farthest first, to the front of `out`, and returns how many
+/// there are (hora's `build_knn_graph`, one turn). It works in `row` (n places), `nodes` and `dists` (`init_k` places each).
+pub fn exact_list(
+    lanes: &[f32],
+    dimension: usize,
+    n: usize,
+    q: NodeId,
+    init_k: usize,
+    row: &mut [f32],
+    nodes: &mut [u32],
+    dists: &mut [f32],
+    out: &mut [u32],
+) -> usize
+    requires { ⌜ (length (now lanes) ≡ n * dimension) × (n ≤ 4096) × (q .0 < n) × (n ≤ length (now row)) ⌝ }
+    requires { ⌜ («init_k» ≤ length (now nodes)) × («init_k» ≤ length (now dists)) × («init_k» ≤ length (now out)) ⌝ }
+    ensures { λ r. ⌜ Exact (between (now (lanes .entry)) dimension) n «init_k» (q .0) (now (row .entry)) (now (nodes .entry)) (now (dists .entry)) (now (out .entry)) (now (row .exit)) (now (nodes .exit)) (now (dists .exit)) (now (out .exit)) r ⌝ }
+{
+    distances_from(lanes, dimension, n, q, row);
+    let len = gather(row, n, q, init_k, nodes, dists);
+    turn_round(nodes, len, out);
+    len
+}
