@@ -2,25 +2,29 @@
 use mathlib.Core.Path.{_≡_, refl, sym, ap, _∙_}
 use mathlib.Core.Bool.{Bool, true, false, cond}
 use mathlib.Core.List.{List, [], _∷_, _++_, map, reverse, append-nil, map-append}
-use Prim.Native.Nat.{ℕ, zero, suc, _+_, _-_, _*_, _≤_, _<_, zero-le, min}
+use Prim.Native.Nat.{ℕ, zero, suc, _+_, _-_, _≤_, _<_, zero-le, suc-le-suc, min}
 use native.Mathlib.Nat.{le-of-suc-le-suc, not-suc-le-zero}
 use native.Mathlib.Numerals.{add-one}
 use native.Mathlib.Omega.{arith}
-use lib.Dec.{eqb, ltb}
-use lib.ListN.{length, take, drop, getD, length-append, length-take, length-map, length-reverse, List·getD-append}
+use lib.Dec.{eqb, ltb, leb}
+use lib.ListN.{length, take, drop, getD, length-append, length-map, length-reverse, List·getD-append}
 use lib.Seq.{take-nil, getD-at, getD-take, take-at, drop-at, take-all, length-take-le}
 use lib.Ieee.{Float, nan}
-use borrow.Author.Tests.{ltb-true, ltb-false, eqb-true, eqb-false, eq-eqb, ne-eqb}
+use borrow.Author.Tests.{ltb-true, ltb-false, eqb-true, eqb-false, eq-eqb, ne-eqb, leb-true, le-leb, lt-leb}
 use Rattle.rules.specs.declared.Neighbor.{Neighbor}
 use Rattle.rules.specs.Loops.{through, each, over}
-use Rattle.rules.specs.Lists.{neighbor, nodeOf, nodesOf, entries, insert, insertAll, sort, least}
+use Rattle.rules.specs.Lists.{neighbor, nodeOf, nodesOf, entries, insert, place, insertAll, sort, least}
+use Rattle.rules.specs.Distance.{before, between}
+use Rattle.neighbor.specs.Holdable.{Holdable}
+use Rattle.neighbor.proofs.Bits.{holdable-between}
 use Rattle.rules.specs.Build.{Between, entry, others, exactList}
 use Rattle.lists.specs.All.{All}
 use Rattle.lists.specs.Lists.{PushedCut}
-use Rattle.lists.proofs.Laws.{take-insert, sort-append, length-least}
-use Rattle.lists.proofs.Slices.{length-entries, nodesOf-entries}
-use Rattle.lists.proofs.Plain.{drop-later, getD-reverse, all-append, all-at, all-take, all-reverse, all-map, all-weaker, all-sort, map-same}
-use Rattle.exact.specs.Exact.{distancesFrom, apartIn, Other, Offered, Gathered, Exact}
+use Rattle.lists.specs.Ascending.{AllHoldable, Ascending}
+use Rattle.lists.proofs.Laws.{take-insert, sort-append, length-least, place-le, place-behind, holdable-take, holdable-sort, ascending-take, ascending-sort}
+use Rattle.lists.proofs.Slices.{length-entries, getD-entries, nodesOf-entries, pushed-none}
+use Rattle.lists.proofs.Plain.{drop-later, getD-reverse, all-append, all-take, all-reverse, all-map, all-weaker, all-sort, all-holdable, map-same}
+use Rattle.exact.specs.Exact.{distancesFrom, apartIn, HoldsRow, Other, Offered, Gathered, Exact}
 
 -- ---- the distances of a node to all
 
@@ -62,6 +66,11 @@ read-distances d n q i row h =
     ∙ List·getD-append (distancesFrom d n q) (drop n row) nan i (omega arith)
     ∙ getD-distances d n q i nan h
 
+pub holds-distances : (lanes : List Float) (dimension n q : ℕ) (row row' : List Float) → row' ≡ over n (distancesFrom (between lanes dimension) n q) row → HoldsRow row' n
+holds-distances lanes dimension n q row row' e i h =
+    let d = between lanes dimension in
+    rw (ap (λ (x : List Float). apartIn x q i) e ∙ read-distances d n q i row h) (holdable-between lanes dimension q i)
+
 -- ---- the others
 
 pub others-each : (q n : ℕ) → All (Other n q) (others q n)
@@ -98,6 +107,40 @@ length-others q (suc n) h = go (eqb n q) refl (length-others q n)
         let m = ih (omega arith) in
         length-append (others q n) (n ∷ []) ∙ omega arith
 
+-- ---- where an entry goes, by a look at the last
+
+place-to : (e : Neighbor) (xs : List Neighbor) (i : ℕ) (z : Neighbor) → i < length xs → before e (getD xs i z) ≡ true → place e xs ≤ i
+unfolding place
+place-to e [] i z h b = absurd (not-suc-le-zero h)
+place-to e (x ∷ xs) zero z h b = rw b (zero-le)
+place-to e (x ∷ xs) (suc i) z h b = go (before e x) (place-to e xs i z (le-of-suc-le-suc h) b)
+  where
+    go : (t : Bool) → place e xs ≤ i → cond t zero (suc (place e xs)) ≤ suc i
+    go true l = zero-le
+    go false l = suc-le-suc l
+
+module _ (ns : List ℕ) (ds : List Float) (len k : ℕ) (e : Neighbor) (one : 1 ≤ k) (l : len ≤ k) (h : len ≤ length ns) (g : len ≤ length ds) where
+  pub behind-short : len < k → false ≡ leb k (place e (entries len ns ds))
+  behind-short m =
+      let long = length-entries len ns ds h g in
+      let at = place-le e (entries len ns ds) in
+      sym (lt-leb k (place e (entries len ns ds)) (omega arith))
+
+  pub behind-not : (a : ℕ) (d : Float) → k ≤ len → before e (neighbor (getD ns (len - 1) a) (getD ds (len - 1) d)) ≡ true → false ≡ leb k (place e (entries len ns ds))
+  behind-not a d m b =
+      let long = length-entries len ns ds h g in
+      let same = getD-entries len (len - 1) ns ds a d e (omega arith) h g in
+      let at = place-to e (entries len ns ds) (len - 1) e (omega arith) (ap (before e) same ∙ b) in
+      sym (lt-leb k (place e (entries len ns ds)) (omega arith))
+
+  pub behind-last : (a : ℕ) (d : Float) → k ≤ len → Holdable (e .distance) → AllHoldable (entries len ns ds) → Ascending (entries len ns ds)
+      → before e (neighbor (getD ns (len - 1) a) (getD ds (len - 1) d)) ≡ false → true ≡ leb k (place e (entries len ns ds))
+  behind-last a d m E X s b =
+      let long = length-entries len ns ds h g in
+      let same = getD-entries len (len - 1) ns ds a d e (omega arith) h g in
+      let at = place-behind e (entries len ns ds) (len - 1) e E X s (omega arith) (ap (before e) same ∙ b) in
+      sym (le-leb k (place e (entries len ns ds)) (omega arith))
+
 -- ---- one node offered
 
 module _ {d : Between} {q i k : ℕ} {ns : List ℕ} {ds : List Float} {len : ℕ} (l : len ≤ k) where
@@ -117,6 +160,14 @@ module _ {d : Between} {q i k : ℕ} {ns : List ℕ} {ds : List Float} {len : �
         nodes-long = made .nodes-long;
         dists-long = made .dists-long;
       }
+
+-- what goes behind the least k changes nothing
+pub offered-behind : {d : Between} {q i k : ℕ} {ns : List ℕ} {ds : List Float} {len : ℕ} → len ≤ k → k ≤ length ns → k ≤ length ds → (i ≡ q → ⊥)
+    → leb k (place (entry d q i) (entries len ns ds)) ≡ true → Offered d q i k ns ds len ns ds len
+offered-behind {d} {q} {i} {k} {ns} {ds} {len} l h g e b =
+    let long = length-entries len ns ds (omega arith) (omega arith) in
+    let within = place-le (entry d q i) (entries len ns ds) in
+    offered-other l e (pushed-none l h g (record { at = refl; within = omega arith }) (leb-true k (place (entry d q i) (entries len ns ds)) b))
 
 -- ---- the nodes below i offered: the least k of them are held
 
@@ -149,6 +200,18 @@ gathered-turn {d} {k} {q} {i} {ns₀} {ds₀} {ns} {ds} {len} {ns'} {ds'} {r} in
       nodes-long = made .nodes-long ∙ inv .nodes-long;
       dists-long = made .dists-long ∙ inv .dists-long;
     }
+
+-- what is held can be held, and ascends
+pub gathered-ascends : (row : List Float) {n k q i : ℕ} {ns₀ : List ℕ} {ds₀ : List Float} {ns : List ℕ} {ds : List Float} {len : ℕ} → HoldsRow row n → i ≤ n
+    → Gathered (apartIn row) i k q ns₀ ds₀ ns ds len → AllHoldable (entries len ns ds) × Ascending (entries len ns ds)
+unfolding least
+gathered-ascends row {n} {k} {q} {i} holds l inv =
+    let es = map (entry (apartIn row) q) (others q i) in
+    let Q : Neighbor → Type 0 = λ (e : Neighbor). Holdable (e .distance) in
+    let held = all-holdable es
+    (all-map Q (entry (apartIn row) q) (others q i)
+    (all-weaker (Other i q) (λ (j : ℕ). Holdable (getD row j nan)) (λ (j : ℕ) (h : Other i q j). holds j (let m = h .0 in omega arith)) (others q i) (others-each q i))) in
+    rw (inv .list) (holdable-take k (sort es) (holdable-sort es held), ascending-take k (sort es) (ascending-sort es held))
 
 -- distances that are the same of the others gather the same
 gathered-same : {d e : Between} {n k q : ℕ} {ns : List ℕ} {ds : List Float} {ns' : List ℕ} {ds' : List Float} {r : ℕ}

@@ -8,6 +8,7 @@ use lib.ListN.{length, take, drop, getD}
 use lib.Ieee.{Float, nan}
 use Rattle.rules.specs.Loops.{each, over}
 use Rattle.rules.specs.Lists.{entries, insert, least}
+use Rattle.neighbor.specs.Holdable.{Holdable}
 use Rattle.rules.specs.Build.{Between, entry, others, exactList}
 
 -- the distances of q to the nodes 0, 1, .., n - 1
@@ -17,6 +18,10 @@ distancesFrom d n q = each (λ (i : ℕ). d q i ∷ []) n
 -- a distance that is read from a slice of them
 abbrev pub apartIn : List Float → Between
 apartIn row q i = getD row i nan
+
+-- a list can hold its first n
+abbrev pub HoldsRow : List Float → ℕ → Type 0
+HoldsRow row n = (i : ℕ) → i < n → Holdable (getD row i nan)
 
 -- a node below n that is not q
 abbrev pub Other : ℕ → ℕ → ℕ → Type 0

@@ -2,10 +2,15 @@
 ghost use mathlib.Core.Path.{_≡_};
 ghost use mathlib.Core.List.{reverse};
 ghost use Prim.Native.Nat.{_*_, _≤_, _<_};
-ghost use lib.ListN.{length, take};
+ghost use lib.Dec.{leb};
+ghost use lib.ListN.{length, take, getD};
+ghost use lib.Ieee.{nan};
 ghost use Rattle.rules.specs.Loops.{over};
+ghost use Rattle.rules.specs.Lists.{entries, place};
 ghost use Rattle.rules.specs.Distance.{between};
-ghost use Rattle.exact.specs.Exact.{distancesFrom, apartIn, Offered, Gathered, Exact};
+ghost use Rattle.neighbor.specs.Holdable.{Holdable};
+ghost use Rattle.lists.specs.Ascending.{AllHoldable, Ascending};
+ghost use Rattle.exact.specs.Exact.{distancesFrom, apartIn, HoldsRow, Offered, Gathered, Exact};
 use rules::Neighbor;
 use rules::NodeId;
 
@@ -21,6 +26,25 @@ pub fn distances_from(lanes: &[f32], dimension: usize, n: usize, q: NodeId, out:
     }
 }
 
+// Whether `e` goes behind the least `k` of the list of the first `len` entries: one look at the last spares most pushes.
+fn goes_behind(nodes: &[u32], dists: &[f32], len: usize, k: usize, e: Neighbor) -> bool
+    requires { ⌜ (1 ≤ k) × (len ≤ k) × (len ≤ length (now nodes)) × (len ≤ length (now dists)) ⌝ }
+    requires { ⌜ Holdable (e .distance) × AllHoldable (entries len (now nodes) (now dists)) × Ascending (entries len (now nodes) (now dists)) ⌝ }
+    ensures { λ r. ⌜ r ≡ leb k (place e (entries len (now (nodes .entry)) (now (dists .entry)))) ⌝ }
+{
+    if len < k {
+        return false;
+    }
+    let x = Neighbor {
+        node: NodeId(nodes[len - 1]),
+        distance: dists[len - 1],
+    };
+    if neighbor::precedes(e, x) {
+        return false;
+    }
+    true
+}
+
 // Pushes node `i` with its distance into the list of the first `len` entries, and keeps the least `k`; `q` itself is passed over.
 fn offer(
     row: &[f32],
@@ -31,8 +55,9 @@ fn offer(
     len: usize,
     k: usize,
 ) -> usize
-    requires { ⌜ (i < 4096) × (i < length (now row)) ⌝ }
-    requires { ⌜ (len ≤ k) × (k ≤ length (now nodes)) × (k ≤ length (now dists)) ⌝ }
+    requires { ⌜ (i < 4096) × (i < length (now row)) × Holdable (getD (now row) i nan) ⌝ }
+    requires { ⌜ (1 ≤ k) × (len ≤ k) × (k ≤ length (now nodes)) × (k ≤ length (now dists)) ⌝ }
+    requires { ⌜ AllHoldable (entries len (now nodes) (now dists)) × Ascending (entries len (now nodes) (now dists)) ⌝ }
     ensures { λ r. ⌜ Offered (apartIn (now (row .entry))) (q .0) i k (now (nodes .entry)) (now (dists .entry)) len (now (nodes .exit)) (now (dists .exit)) r ⌝ }
 {
     if i == q.0 as usize {
@@ -42,6 +67,9 @@ fn offer(
         node: NodeId(i as u32),
         distance: row[i],
     };
+    if goes_behind(nodes, dists, len, k, e) {
+        return len;
+    }
     lists::push_cut(nodes, dists, len, k, e)
 }
 
@@ -54,7 +82,7 @@ fn gather(
     nodes: &mut [u32],
     dists: &mut [f32],
 ) -> usize
-    requires { ⌜ (n ≤ 4096) × (n ≤ length (now row)) × («init_k» ≤ length (now nodes)) × («init_k» ≤ length (now dists)) ⌝ }
+    requires { ⌜ HoldsRow (now row) n × (n ≤ 4096) × (n ≤ length (now row)) × (1 ≤ «init_k») × («init_k» ≤ length (now nodes)) × («init_k» ≤ length (now dists)) ⌝ }
     ensures { λ r. ⌜ Gathered (apartIn (now (row .entry))) n «init_k» (q .0) (now (nodes .entry)) (now (dists .entry)) (now (nodes .exit)) (now (dists .exit)) r ⌝ }
 {
     let mut len = 0;
@@ -92,7 +120,7 @@ pub fn exact_list(
     out: &mut [u32],
 ) -> usize
     requires { ⌜ (length (now lanes) ≡ n * dimension) × (n ≤ 4096) × (q .0 < n) × (n ≤ length (now row)) ⌝ }
-    requires { ⌜ («init_k» ≤ length (now nodes)) × («init_k» ≤ length (now dists)) × («init_k» ≤ length (now out)) ⌝ }
+    requires { ⌜ (1 ≤ «init_k») × («init_k» ≤ length (now nodes)) × («init_k» ≤ length (now dists)) × («init_k» ≤ length (now out)) ⌝ }
     ensures { λ r. ⌜ Exact (between (now (lanes .entry)) dimension) n «init_k» (q .0) (now (row .entry)) (now (nodes .entry)) (now (dists .entry)) (now (out .entry)) (now (row .exit)) (now (nodes .exit)) (now (dists .exit)) (now (out .exit)) r ⌝ }
 {
     distances_from(lanes, dimension, n, q, row);

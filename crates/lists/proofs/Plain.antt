@@ -11,7 +11,8 @@ use lib.Seq.{drop-drop, getD-at}
 use borrow.Author.Tests.{ltb-true, ltb-false}
 use Rattle.rules.specs.declared.Neighbor.{Neighbor}
 use Rattle.rules.specs.Lists.{sort}
-use Rattle.lists.specs.Ascending.{Perm, same, next, exchange, chain}
+use Rattle.neighbor.specs.Holdable.{Holdable}
+use Rattle.lists.specs.Ascending.{AllHoldable, Perm, same, next, exchange, chain}
 use Rattle.lists.specs.All.{All}
 use Rattle.lists.proofs.Laws.{sort-is-perm}
 
@@ -79,6 +80,10 @@ module _ {A : Type 0} (P : A → Type 0) where
 
 pub all-sort : (P : Neighbor → Type 0) (es : List Neighbor) → All P es → All P (sort es)
 all-sort P es E = all-perm P (sort-is-perm es) E
+
+pub all-holdable : (es : List Neighbor) → All (λ (e : Neighbor). Holdable (e .distance)) es → AllHoldable es
+all-holdable [] E = tt
+all-holdable (e ∷ es) E = (E .0, all-holdable es (E .1))
 
 -- functions that give the same of each give the same list
 pub map-same : {A B : Type 0} (f g : A → B) (xs : List A) → All (λ (x : A). f x ≡ g x) xs → map f xs ≡ map g xs

@@ -3,7 +3,7 @@ use mathlib.Core.Path.{_≡_}
 use Prim.Native.Nat.{_≤_, _-_}
 use native.Mathlib.Omega.{arith}
 use Rattle.exact.specs.Exact.{apartIn, Gathered}
-use Rattle.exact.proofs.Laws.{gathered-none, gathered-turn}
+use Rattle.exact.proofs.Laws.{gathered-none, gathered-turn, gathered-ascends}
 use borrow.Author.Needs.{needs}
 use Rattle.exact.proofs.gather.Statement.{statement}
 use Rattle.exact.proofs.gather.Tie as tie
@@ -19,11 +19,12 @@ loop-holds c = (search needs, gathered-none)
 
 offer-requires : tie.Need-offer-requires Inv-loop μ-loop
 offer-requires c κs =
-    let inv = c .before .before .before .loop .inv .1 in
-    let within = inv .within in
+    let at = c .before .before .before in
+    let pre = at .before .before .before .before .pre in
+    let inv = at .loop .inv .1 in
     let u = inv .nodes-long in
     let v = inv .dists-long in
-    ((search needs, search needs), (within, omega arith, omega arith))
+    ((search needs, search needs, pre .0 (at .loop .i) (search needs)), ((pre .3, inv .within, omega arith, omega arith), gathered-ascends (at .before .before .before .before .args .row .now) (pre .0) (search needs) inv))
 
 add-i : tie.Need-add-i Inv-loop μ-loop
 add-i c = search needs
