@@ -79,17 +79,8 @@ fn two_hops(
     let mut taken = 0;
     let mut i = 0;
     while i < count {
-        taken = member_hops(
-            lists,
-            init_k,
-            count,
-            limit,
-            q,
-            NodeId(lists[from + i]),
-            flags,
-            out,
-            taken,
-        );
+        let member = NodeId(lists[from + i]);
+        taken = member_hops(lists, init_k, count, limit, q, member, flags, out, taken);
         i += 1;
     }
     taken

@@ -30,24 +30,24 @@ mul-from c =
 loop-holds : tie.Need-loop-holds Inv-loop μ-loop
 loop-holds c = (search needs, walked-none (c .before .before .before .before .pre .1 .0) (omega arith))
 
-add-t13 : tie.Need-add-t13 Inv-loop μ-loop
-add-t13 c =
+add-t14 : tie.Need-add-t14 Inv-loop μ-loop
+add-t14 c =
     let at = c .before in
     let pre = at .before .before .before .before .before .pre .0 in
     let room = from-room (pre .0) _ (pre .1) in
     let fewer = pre .0 .fewer in
     omega arith
 
-mul-t14 : tie.Need-mul-t14 Inv-loop μ-loop
-mul-t14 c =
+mul-t15 : tie.Need-mul-t15 Inv-loop μ-loop
+mul-t15 c =
     let at = c .before in
     let pre = at .before .before .before .before .before .pre .0 in
     let room = from-room (pre .0) _ (pre .1) in
     let fewer = pre .0 .fewer in
     search needs
 
-shared-slice-read-t16 : tie.Need-shared-slice-read-t16 Inv-loop μ-loop
-shared-slice-read-t16 c =
+shared-slice-read-t17 : tie.Need-shared-slice-read-t17 Inv-loop μ-loop
+shared-slice-read-t17 c =
     let at = c .before .before in
     let pre = at .before .before .before .before .before .pre .0 in
     let room = from-room (pre .0) _ (pre .1) in
@@ -102,9 +102,9 @@ two-hops-spec =
     cast-from
     mul-from
     loop-holds
-    add-t13
-    mul-t14
-    shared-slice-read-t16
+    add-t14
+    mul-t15
+    shared-slice-read-t17
     member-hops-requires
     add-i
     loop-less
