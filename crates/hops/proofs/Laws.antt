@@ -15,7 +15,7 @@ use Rattle.rules.specs.Search.{mark, isSeen}
 use Rattle.rules.specs.Build.{taking, hop, twoHops, candidates}
 use Rattle.rules.proofs.Loops.{through-append, through-turn, through-end}
 use Rattle.lists.specs.All.{All}
-use Rattle.lists.proofs.Plain.{drop-later, all-append, all-at}
+use Rattle.lists.proofs.Plain.{drop-later, all-append, all-at, all-weaker}
 use Rattle.hops.specs.Hops.{listOf, Linked, flagsOf, Flagged, Took, Candidates}
 
 -- ---- flags: a value put at each of a list of places
@@ -304,6 +304,23 @@ module _ (P : ℕ → Type 0) where
       (all-through (λ (member : ℕ) (taken : List ℕ). through (hop limit q) (lists member) taken)
       (λ (m : ℕ) (taken : List ℕ) (M : P m) (X : All P taken). all-through (hop limit q) (all-hop limit q) (lists m) taken (g m M) X)
       (lists q) [] (g q Q) tt)
+
+-- ---- lists that are the same of the nodes below n have the same candidates
+
+through-each : (f g : ℕ → List ℕ → List ℕ) (ms taken : List ℕ) → All (λ (m : ℕ). (s : List ℕ) → f m s ≡ g m s) ms → through f ms taken ≡ through g ms taken
+unfolding through
+through-each f g [] taken M = refl
+through-each f g (m ∷ ms) taken M = ap (through f ms) (M .0 taken) ∙ through-each f g ms (g m taken) (M .1)
+
+pub candidates-same : (f g : ℕ → List ℕ) (n limit q : ℕ) → ((v : ℕ) → v < n → f v ≡ g v) → All (λ (v : ℕ). v < n) (f q) → q < n → candidates f limit q ≡ candidates g limit q
+unfolding candidates twoHops
+candidates-same f g n limit q same below h =
+    let walk : (ℕ → List ℕ) → ℕ → List ℕ → List ℕ = λ (lists : ℕ → List ℕ) (member : ℕ) (taken : List ℕ). through (hop limit q) (lists member) taken in
+    ap (through taking (f q))
+    (through-each (walk f) (walk g) (f q) []
+    (all-weaker (λ (v : ℕ). v < n) (λ (m : ℕ). (s : List ℕ) → walk f m s ≡ walk g m s)
+    (λ (m : ℕ) (l : m < n) (s : List ℕ). ap (λ (ms : List ℕ). through (hop limit q) ms s) (same m l)) (f q) below))
+    ∙ ap (λ (ms : List ℕ). through taking ms (through (walk g) ms [])) (same q h)
 
 -- ---- the whole
 
