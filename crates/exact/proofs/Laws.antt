@@ -1,4 +1,4 @@
--- Laws of step 1 over plain lists: the distances of a node to all, the nodes offered, the list turned round. Assumes nothing.
+-- Laws of step 1 over plain lists: the distances of a node to others, the nodes offered, the list turned round. Assumes nothing.
 use mathlib.Core.Path.{_≡_, refl, sym, ap, _∙_}
 use mathlib.Core.Bool.{Bool, true, false, cond}
 use mathlib.Core.List.{List, [], _∷_, _++_, map, reverse, append-nil, map-append}
@@ -7,7 +7,7 @@ use native.Mathlib.Nat.{le-of-suc-le-suc, not-suc-le-zero}
 use native.Mathlib.Numerals.{add-one}
 use native.Mathlib.Omega.{arith}
 use lib.Dec.{eqb, ltb, leb}
-use lib.ListN.{length, take, drop, getD, length-append, length-map, length-reverse, List·getD-append}
+use lib.ListN.{length, take, drop, getD, length-append, length-map, length-reverse, List·getD-append, List·getD-map}
 use lib.Seq.{take-nil, getD-at, getD-take, take-at, drop-at, take-all, length-take-le}
 use lib.Ieee.{Float, nan}
 use borrow.Author.Tests.{ltb-true, ltb-false, eqb-true, eqb-false, eq-eqb, ne-eqb, leb-true, le-leb, lt-leb}
@@ -70,6 +70,26 @@ pub holds-distances : (lanes : List Float) (dimension n q : ℕ) (row row' : Lis
 holds-distances lanes dimension n q row row' e i h =
     let d = between lanes dimension in
     rw (ap (λ (x : List Float). apartIn x q i) e ∙ read-distances d n q i row h) (holdable-between lanes dimension q i)
+
+-- ---- the distances of a node to some
+
+module _ (f : ℕ → Float) (vs : List ℕ) (len : ℕ) (h : len ≤ length vs) where
+  pub length-some : length (map f (take len vs)) ≡ len
+  length-some = length-map (take len vs) f ∙ length-take-le len vs h
+
+  pub getD-some : (i a : ℕ) → i < len → getD (map f (take len vs)) i (f a) ≡ f (getD vs i a)
+  getD-some i a l = List·getD-map f (take len vs) i a ∙ ap f (getD-take len vs i a l)
+
+-- beside their nodes they are entries
+entries-front : (d : Between) (q len : ℕ) (vs : List ℕ) (tail : List Float) → len ≤ length vs → entries len vs (take len (map (d q) (take len vs)) ++ tail) ≡ map (entry d q) (take len vs)
+unfolding entries
+entries-front d q zero vs tail h = refl
+entries-front d q (suc len) [] tail h = absurd (not-suc-le-zero h)
+entries-front d q (suc len) (v ∷ vs) tail h = ap (λ (l : List Neighbor). entry d q v ∷ l) (entries-front d q len vs tail (le-of-suc-le-suc h))
+
+pub entries-some : (d : Between) (q len : ℕ) (vs : List ℕ) (ds : List Float) → len ≤ length vs → entries len vs (over len (map (d q) (take len vs)) ds) ≡ map (entry d q) (take len vs)
+unfolding over
+entries-some d q len vs ds h = entries-front d q len vs (drop len ds) h
 
 -- ---- the others
 

@@ -1,6 +1,6 @@
-// Step 1 of build: the exact list of a node.
+// Step 1 of build: the distances of a node to others, and its exact list.
 ghost use mathlib.Core.Path.{_≡_};
-ghost use mathlib.Core.List.{reverse};
+ghost use mathlib.Core.List.{map, reverse};
 ghost use Prim.Native.Nat.{_*_, _≤_, _<_};
 ghost use lib.Dec.{leb};
 ghost use lib.ListN.{length, take, getD};
@@ -9,6 +9,7 @@ ghost use Rattle.rules.specs.Loops.{over};
 ghost use Rattle.rules.specs.Lists.{entries, place};
 ghost use Rattle.rules.specs.Distance.{between};
 ghost use Rattle.neighbor.specs.Holdable.{Holdable};
+ghost use Rattle.lists.specs.All.{All};
 ghost use Rattle.lists.specs.Ascending.{AllHoldable, Ascending};
 ghost use Rattle.exact.specs.Exact.{distancesFrom, apartIn, HoldsRow, Offered, Gathered, Exact};
 use rules::Neighbor;
@@ -22,6 +23,27 @@ pub fn distances_from(lanes: &[f32], dimension: usize, n: usize, q: NodeId, out:
     let mut i = 0usize;
     while i < n {
         out[i] = metrics::between(lanes, dimension, q, NodeId(i as u32));
+        i += 1;
+    }
+}
+
+/// Writes the distances of `q` to the first `len` of `nodes` to the first `len` places of `dists`, and so makes entries of them.
+pub fn distances_to(
+    lanes: &[f32],
+    dimension: usize,
+    n: usize,
+    q: NodeId,
+    nodes: &[u32],
+    len: usize,
+    dists: &mut [f32],
+)
+    requires { ⌜ (length (now lanes) ≡ n * dimension) × (q .0 < n) × All (λ v. v < n) (take len (now nodes)) ⌝ }
+    requires { ⌜ (len ≤ length (now nodes)) × (len ≤ length (now dists)) ⌝ }
+    ensures { λ _. ⌜ now (dists .exit) ≡ over len (map (between (now (lanes .entry)) dimension (q .0)) (take len (now (nodes .entry)))) (now (dists .entry)) ⌝ }
+{
+    let mut i = 0;
+    while i < len {
+        dists[i] = metrics::between(lanes, dimension, q, NodeId(nodes[i]));
         i += 1;
     }
 }
