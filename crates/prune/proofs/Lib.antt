@@ -1,0 +1,2 @@
+-- `Laws`: the laws of the choice, over plain lists.
+pub mod Laws

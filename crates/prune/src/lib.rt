@@ -1,0 +1,157 @@
+// Step 3 of build: which entries stand in the way of which, and the choice of those that are kept.
+ghost use mathlib.Core.Path.{_≡_};
+ghost use Prim.Native.Nat.{_+_, _*_, _≤_, _<_};
+ghost use lib.ListN.{length};
+ghost use lib.Ieee.{lt};
+ghost use Rattle.rules.specs.Loops.{anyOf};
+ghost use Rattle.rules.specs.Lists.{entries};
+ghost use Rattle.rules.specs.Distance.{between};
+ghost use Rattle.rules.specs.Build.{cosine, occludes};
+ghost use Rattle.prune.specs.Chosen.{AllBelow, Kept, Chosen};
+use rules::Neighbor;
+use rules::NodeId;
+
+/// Whether the cosine of two stored distances and the distance between them is over the threshold; a NaN is not
+/// (the test in hora's `prune_graph` and `inter_insert`).
+pub fn occludes(dp: f32, dr: f32, djk: f32, threshold: f32) -> bool
+    ensures { λ result. ⌜ result ≡ lt threshold (cosine dp dr djk) ⌝ }
+{
+    let c = ((dp * dp + dr * dr) - djk * djk) / (2.0 * (dp * dr));
+    c > threshold
+}
+
+// Whether the kept `r` occludes `p`; in step 5 an equal node does so too.
+fn stands_before(
+    lanes: &[f32],
+    dimension: usize,
+    threshold: f32,
+    equal_too: bool,
+    p: Neighbor,
+    r: Neighbor,
+) -> bool
+    requires { ⌜ ((p .node .0 + 1) * dimension ≤ length (now lanes)) × ((r .node .0 + 1) * dimension ≤ length (now lanes)) ⌝ }
+    ensures { λ result. ⌜ result ≡ occludes (between (now (lanes .entry)) dimension) threshold «equal_too» p r ⌝ }
+{
+    let np = p.node;
+    let nr = r.node;
+    if equal_too {
+        if np.0 == nr.0 {
+            return true;
+        }
+    }
+    let djk = metrics::between(lanes, dimension, np, nr);
+    occludes(p.distance, r.distance, djk, threshold)
+}
+
+// Whether one of the first `kept` entries occludes `p`.
+fn occluded(
+    lanes: &[f32],
+    dimension: usize,
+    n: usize,
+    threshold: f32,
+    equal_too: bool,
+    nodes: &[u32],
+    dists: &[f32],
+    kept: usize,
+    p: Neighbor,
+) -> bool
+    requires { ⌜ (length (now lanes) ≡ n * dimension) × (p .node .0 < n) × AllBelow n (entries kept (now nodes) (now dists)) ⌝ }
+    requires { ⌜ (kept ≤ length (now nodes)) × (kept ≤ length (now dists)) ⌝ }
+    ensures { λ result. ⌜ result ≡ anyOf (occludes (between (now (lanes .entry)) dimension) threshold «equal_too» p) (entries kept (now (nodes .entry)) (now (dists .entry))) ⌝ }
+{
+    let mut i = 0;
+    while i < kept {
+        let r = Neighbor {
+            node: NodeId(nodes[i]),
+            distance: dists[i],
+        };
+        if stands_before(lanes, dimension, threshold, equal_too, p, r) {
+            return true;
+        }
+        i += 1;
+    }
+    false
+}
+
+// Keeps `p` behind the first `kept` entries unless one of them occludes it.
+fn keep(
+    lanes: &[f32],
+    dimension: usize,
+    n: usize,
+    threshold: f32,
+    equal_too: bool,
+    nodes: &mut [u32],
+    dists: &mut [f32],
+    kept: usize,
+    index_size: usize,
+    p: Neighbor,
+) -> usize
+    requires { ⌜ (length (now lanes) ≡ n * dimension) × (p .node .0 < n) × AllBelow n (entries kept (now nodes) (now dists)) ⌝ }
+    requires { ⌜ (kept < «index_size») × («index_size» ≤ length (now nodes)) × («index_size» ≤ length (now dists)) ⌝ }
+    ensures { λ r. ⌜ Kept (occludes (between (now (lanes .entry)) dimension) threshold «equal_too») «index_size» p (now (nodes .entry)) (now (dists .entry)) kept (now (nodes .exit)) (now (dists .exit)) r ⌝ }
+{
+    if occluded(
+        lanes,
+        dimension,
+        n,
+        threshold,
+        equal_too,
+        nodes,
+        dists,
+        kept,
+        p,
+    ) {
+        return kept;
+    }
+    let node = p.node;
+    nodes[kept] = node.0;
+    dists[kept] = p.distance;
+    kept + 1
+}
+
+/// Writes the chosen of the first `len` entries, which are sorted, to the front of `nodes` and `dists`, at most `index_size`, and
+/// returns how many (the loop of hora's `prune_graph` and `inter_insert`).
+pub fn choose(
+    lanes: &[f32],
+    dimension: usize,
+    n: usize,
+    threshold: f32,
+    equal_too: bool,
+    from_nodes: &[u32],
+    from_dists: &[f32],
+    len: usize,
+    nodes: &mut [u32],
+    dists: &mut [f32],
+    index_size: usize,
+) -> usize
+    requires { ⌜ (length (now lanes) ≡ n * dimension) × AllBelow n (entries len (now «from_nodes») (now «from_dists»)) ⌝ }
+    requires { ⌜ (len ≤ length (now «from_nodes»)) × (len ≤ length (now «from_dists»)) ⌝ }
+    requires { ⌜ («index_size» ≤ length (now nodes)) × («index_size» ≤ length (now dists)) ⌝ }
+    ensures { λ r. ⌜ Chosen (occludes (between (now (lanes .entry)) dimension) threshold «equal_too») «index_size» (entries len (now («from_nodes» .entry)) (now («from_dists» .entry))) (now (nodes .entry)) (now (dists .entry)) (now (nodes .exit)) (now (dists .exit)) r ⌝ }
+{
+    let mut kept = 0;
+    let mut i = 0;
+    while i < len {
+        if index_size <= kept {
+            return kept;
+        }
+        let p = Neighbor {
+            node: NodeId(from_nodes[i]),
+            distance: from_dists[i],
+        };
+        kept = keep(
+            lanes,
+            dimension,
+            n,
+            threshold,
+            equal_too,
+            nodes,
+            dists,
+            kept,
+            index_size,
+            p,
+        );
+        i += 1;
+    }
+    kept
+}
