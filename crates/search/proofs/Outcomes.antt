@@ -84,14 +84,14 @@ numbers : (lanes : List Float) (dimension : ℕ) (query : List Float) (v : ℕ) 
 unfolding isNan
 numbers lanes dimension query v x e = let p = fit-plain x (query-fit lanes dimension query v x e) in rw (p .is) tt
 
-module _ {lanes : List Float} {dimension : ℕ} {query : List Float} {rows : ℕ → List ℕ} {n k : ℕ} {roots us us' : List ℕ} {fs fs' : List Float} {r : Counted} {takings m : ℕ} where
+module _ (lanes : List Float) (dimension : ℕ) (query : List Float) (rows : ℕ → List ℕ) (n k : ℕ) (roots : List ℕ) where
   abbrev goal : Going Walk
   goal = searchOf (queryApart lanes dimension query) rows n k roots
 
-  pub best-numbers : r ≡ counted.Count takings → WalkedIn goal n (min k (length roots)) us fs us' fs' r → m ≡ min k (length roots) → Room n us' fs' → m ≤ 64
+  pub best-numbers : {us us' : List ℕ} {fs fs' : List Float} {r : Counted} {takings m : ℕ} → r ≡ counted.Count takings → WalkedIn goal n (min k (length roots)) us fs us' fs' r → m ≡ min k (length roots) → Room n us' fs' → m ≤ 64
       → (i : ℕ) → i < m → T (not (isNan (getD (area (bestAt n) 64 fs') i nan)))
   unfolding endsIn Whenever
-  best-numbers e w f room few i h =
+  best-numbers {us} {us'} {fs} {fs'} {r} {takings} {m} e w f room few i h =
       let p : WalkedIn goal n (min k (length roots)) us fs us' fs' (counted.Count takings) = rw e at w in
       let s = p .ends in
       let all : AllOf Number (s .0 .best) = subst (Whenever (λ (t : Walk). AllOf Number (t .best))) (s .1) (of-search Number (queryApart lanes dimension query) (numbers lanes dimension query) rows n k roots) in
@@ -163,10 +163,10 @@ module _ (l : SearchLent) where
 
 -- ---- "show that any two outcomes it allows are equal"
 
-pub record Same (a b : SearchAnswer) (nodes nodes' bits bits' su su' : List ℕ) (sf sf' : List Float) : Type 0 where
+pub record Same (a b : SearchAnswer) (ns ns' bs bs' su su' : List ℕ) (sf sf' : List Float) : Type 0 where
   pub answer : a ≡ b
-  pub nodes : nodes ≡ nodes'
-  pub bits : bits ≡ bits'
+  pub nodes : ns ≡ ns'
+  pub bits : bs ≡ bs'
   pub scratch-u : su ≡ su'
   pub scratch-f : sf ≡ sf'
 
@@ -181,3 +181,11 @@ two-outcomes l a b nodes nodes' bits bits' su su' sf sf' p q =
       scratch-u = ap (λ (o : SearchOutcome). o .scratch-u) e;
       scratch-f = ap (λ (o : SearchOutcome). o .scratch-f) e;
     }
+
+-- ---- room for the walk's areas
+
+pub ready-room : (l : SearchLent) → Ready l → Room (l .n) (l .scratch-u) (l .scratch-f)
+ready-room l ready =
+    let w = ready .words-room in
+    let f = ready .floats-room in
+    record { words = omega arith; floats = omega arith }

@@ -1,70 +1,70 @@
+-- `search::give` meets its contract. Assumes nothing.
+use mathlib.Core.Path.{_≡_, sym, ap, _∙_, subst}
+use mathlib.Core.Bool.{not}
+use Prim.Native.Nat.{ℕ, _+_, _-_, _*_, _≤_, _<_}
+use native.Mathlib.Omega.{arith}
+use lib.Dec.{T}
+use lib.ListN.{length, take, drop, getD, length-take, length-drop}
+use lib.Ieee.{nan, isNan}
+use denote.Ref.{now}
+use Rattle.search.proofs.Outcomes.{cut, nodes-given, bits-given}
 use borrow.Author.Needs.{needs}
 use Rattle.search.proofs.give.Statement.{statement}
 use Rattle.search.proofs.give.Tie as tie
-use Rattle.search.proofs.give.Reads as reads
-use Rattle.search.proofs.give.Lts as lts
-use Rattle.buffers.proofs.copy_bits.Reads as copy-bits-reads
-use Rattle.buffers.proofs.copy_words.Reads as copy-words-reads
 
--- src/lib.rt:107:16
 add-from : tie.Need-add-from
 add-from c = search needs
 
--- src/lib.rt:108:14
 add-to : tie.Need-add-to
 add-to c = search needs
 
--- src/lib.rt:109:28
 mul-copy-words : tie.Need-mul-copy-words
 mul-copy-words c = search needs
 
--- src/lib.rt:109:28
 sub-copy-words : tie.Need-sub-copy-words
 sub-copy-words c = search needs
 
--- src/lib.rt:109:28
 part-copy-words-start : tie.Need-part-copy-words-start
 part-copy-words-start c = search needs
 
--- src/lib.rt:109:28
 part-copy-words-end : tie.Need-part-copy-words-end
 part-copy-words-end c = search needs
 
--- src/lib.rt:109:5
 copy-words-requires : tie.Need-copy-words-requires
 copy-words-requires c κs = search needs
 
--- src/lib.rt:110:27
 mul-copy-bits : tie.Need-mul-copy-bits
 mul-copy-bits c = search needs
 
--- src/lib.rt:110:27
 sub-copy-bits : tie.Need-sub-copy-bits
 sub-copy-bits c = search needs
 
--- src/lib.rt:110:27
 part-copy-bits-start : tie.Need-part-copy-bits-start
 part-copy-bits-start c = search needs
 
--- src/lib.rt:110:27
 part-copy-bits-end : tie.Need-part-copy-bits-end
 part-copy-bits-end c = search needs
 
--- src/lib.rt:110:5
 copy-bits-requires : tie.Need-copy-bits-requires
-copy-bits-requires c κs = ?
+copy-bits-requires c κs =
+    let start = c .before .before .before .before .before .before .before .before .before .before .before in
+    let n = start .args .n in
+    let e = cut n _ _ _ (start .pre .0) (start .pre .1 .0 .0) in
+    let floats = start .pre .0 .floats in
+    let few = start .pre .1 .0 .0 in
+    let fits = start .pre .1 .0 .2 in
+    ((simp (length-take, length-drop) (omega arith), fits), λ i h. subst (λ (w : ℕ). T (not (isNan (getD (take w (drop (n + n) (now (start .args .floats)))) i nan)))) (sym e) (start .pre .1 .1 i h))
 
--- src/lib.rt:93:1
 same-length : tie.Need-same-length
 same-length c = search needs
 
--- src/lib.rt:93:1
 same-length-2 : tie.Need-same-length-2
 same-length-2 c = search needs
 
--- src/lib.rt:93:1
 returns : tie.Need-returns
-returns c = ?
+returns c =
+    let start = c .before .before .before .before .before .before .before .before .before .before .before .before .before .before in
+    (c .before .before .before .before .before .before .before .copy-words .ensures ∙ nodes-given _ _ _ _ (start .pre .0) (start .pre .1 .0 .0) _, c .before .before .copy-bits .ensures ∙ bits-given _ _ _ _ (start .pre .0) (start .pre .1 .0 .0) _)
 
 pub give-spec : {M : Type 1} → statement M
 give-spec =

@@ -1,50 +1,53 @@
+-- `search::search` meets its contract: a row that holds, or the work. Assumes nothing.
+use mathlib.Core.Path.{_≡_, _∙_}
+use denote.Ref.{now}
+use Rattle.rules.specs.SearchCall.{SearchLent, searchTable}
+use Rattle.search.specs.Search.{lent}
+use Rattle.search.proofs.Table.{ready}
+use Rattle.search.proofs.Outcomes.{searched-refused, no-row, searched-worked}
 use borrow.Author.Needs.{needs}
 use Rattle.search.proofs.search.Statement.{statement}
 use Rattle.search.proofs.search.Tie as tie
-use Rattle.search.proofs.search.Reads as reads
-use Rattle.search.proofs.search.Lts as lts
-use Rattle.search.proofs.judge.Reads as judge-reads
-use Rattle.search.proofs.work.Reads as work-reads
 
--- src/lib.rt:177:9
+-- what the call was lent
+abbrev lentTo : tie.Start → SearchLent
+lentTo start =
+    let a = start .args in
+    lent (a .dimension) (a .n) (now (a .lanes)) (now (a .graph)) (a .index-size) (now (a .roots)) (now (a .query)) (a .k) (now (a .result-nodes)) (now (a .result-bits))
+    (now (a .scratch-u)) (now (a .scratch-f))
+
 judge-requires : tie.Need-judge-requires
 judge-requires c κs = search needs
 
--- src/lib.rt:192:25
 enum-known-v : tie.Need-enum-known-v
 enum-known-v c = search needs
 
--- src/lib.rt:202:13
 enum-told : tie.Need-enum-told
 enum-told c = search needs
 
--- src/lib.rt:193:25
 work-requires : tie.Need-work-requires
-work-requires c κs = ?
+unfolding searchTable
+work-requires c κs = ready _ (no-row (lentTo (c .before .before .before .before .before .before .before .before .before .before .before .before .before .before .before)) (c .before .before .before .before .before .before .judge .ensures) (c .before .before .before .before .enum-told .given .1))
 
--- src/lib.rt:161:1
 returns : tie.Need-returns
-returns c = ?
+unfolding searchTable
+returns c = searched-refused _ (c .before .before .before .judge .ensures) (c .before .v .given .1)
 
--- src/lib.rt:161:1
 same-length : tie.Need-same-length
 same-length c = search needs
 
--- src/lib.rt:161:1
 same-length-2 : tie.Need-same-length-2
 same-length-2 c = search needs
 
--- src/lib.rt:161:1
 same-length-3 : tie.Need-same-length-3
 same-length-3 c = search needs
 
--- src/lib.rt:161:1
 same-length-4 : tie.Need-same-length-4
 same-length-4 c = search needs
 
--- src/lib.rt:161:1
 returns-2 : tie.Need-returns-2
-returns-2 c = ?
+unfolding searchTable
+returns-2 c = searched-worked _ (no-row (lentTo (c .before .before .before .before .before .before .before .before .before .before .before .before .before .before .before .before .before .before .before .before .before .before .before .before)) (c .before .before .before .before .before .before .before .before .before .before .before .before .before .before .before .judge .ensures) (c .before .before .before .before .before .before .before .before .before .before .before .before .before .enum-told .given .1)) (c .before .before .before .before .before .before .before .before .work .ensures)
 
 pub search-spec : {M : Type 1} → statement M
 search-spec =

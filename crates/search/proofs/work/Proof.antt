@@ -1,85 +1,82 @@
+-- `search::work` meets its contract. Assumes nothing.
+use mathlib.Core.Path.{_≡_, _∙_}
+use Prim.Native.Nat.{ℕ, _+_, _-_, _*_, _≤_, _<_}
+use native.Mathlib.Omega.{arith}
+use Rattle.expand.specs.Areas.{Room}
+use Rattle.expand.proofs.Areas.{room-kept}
+use Rattle.search.proofs.Outcomes.{ready-room, best-numbers, worked-unfit, worked-found}
 use borrow.Author.Needs.{needs}
 use Rattle.search.proofs.work.Statement.{statement}
 use Rattle.search.proofs.work.Tie as tie
-use Rattle.search.proofs.work.Reads as reads
-use Rattle.search.proofs.work.Lts as lts
-use Rattle.buffers.proofs.zero_floats.Reads as zero-floats-reads
-use Rattle.buffers.proofs.zero_words.Reads as zero-words-reads
-use Rattle.search.proofs.give.Reads as give-reads
-use Rattle.walk.proofs.fewer.Reads as fewer-reads
-use Rattle.walk.proofs.walk.Reads as walk-reads
 
--- src/lib.rt:131:9
 walk-requires : tie.Need-walk-requires
-walk-requires c κs = ?
+walk-requires c κs =
+    let ready = c .before .before .before .before .before .before .before .before .before .before .pre in
+    (record { lanes-long = ready .lanes-long; query-long = ready .query-long; few = ready .few-nodes }, (record { long = ready .graph-long; narrow = ready .narrow }, (ready .roots, (ready-room _ ready, ready .some))))
 
--- src/lib.rt:144:24
 enum-known-r : tie.Need-enum-known-r
 enum-known-r c = search needs
 
--- src/lib.rt:145:13
 zero-words-requires : tie.Need-zero-words-requires
 zero-words-requires c κs = search needs
 
--- src/lib.rt:146:13
 zero-floats-requires : tie.Need-zero-floats-requires
 zero-floats-requires c κs = search needs
 
--- src/lib.rt:147:59
 cast-t27 : tie.Need-cast-t27
 cast-t27 c = search needs
 
--- src/lib.rt:149:24
 enum-known-r-2 : tie.Need-enum-known-r-2
 enum-known-r-2 c = search needs
 
--- src/lib.rt:150:17
 fewer-requires : tie.Need-fewer-requires
 fewer-requires c κs = search needs
 
--- src/lib.rt:151:13
 give-requires : tie.Need-give-requires
-give-requires c κs = ?
+give-requires c κs =
+    let done = c .before .before .before .before .before .before .before .before .before .before .before .before in
+    let ready = done .before .before .before .before .before .before .before .before .before .before .before .pre in
+    let w = done .walk .ensures in
+    let least = c .before .before .before .before .fewer .ensures in
+    let few = ready .few in
+    let nodes = ready .nodes-room in
+    let bits = ready .bits-room in
+    let room = room-kept (ready-room _ ready) (w .words) (w .floats) in
+    (room, ((omega arith, omega arith, omega arith), best-numbers _ _ _ _ _ _ _ (c .before .before .before .before .before .before .r2 .given .1) w least room (omega arith)))
 
--- src/lib.rt:152:13
 zero-words-requires-2 : tie.Need-zero-words-requires-2
 zero-words-requires-2 c κs = search needs
 
--- src/lib.rt:153:13
 zero-floats-requires-2 : tie.Need-zero-floats-requires-2
 zero-floats-requires-2 c κs = search needs
 
--- src/lib.rt:114:1
 same-length : tie.Need-same-length
 same-length c = search needs
 
--- src/lib.rt:114:1
 same-length-2 : tie.Need-same-length-2
 same-length-2 c = search needs
 
--- src/lib.rt:114:1
 returns : tie.Need-returns
-returns c = ?
+returns c =
+    let done = c .before .before .before .before .before .before .before .before .before .before .before .before .before .before .before in
+    worked-unfit _ (c .before .before .before .before .before .before .before .before .before .r .given .1) (done .walk .ensures) (c .before .before .before .before .before .before .zero-words .ensures) (c .before .before .zero-floats .ensures)
 
--- src/lib.rt:114:1
 same-length-3 : tie.Need-same-length-3
 same-length-3 c = search needs
 
--- src/lib.rt:114:1
 same-length-4 : tie.Need-same-length-4
 same-length-4 c = search needs
 
--- src/lib.rt:114:1
 same-length-5 : tie.Need-same-length-5
 same-length-5 c = search needs
 
--- src/lib.rt:114:1
 same-length-6 : tie.Need-same-length-6
 same-length-6 c = search needs
 
--- src/lib.rt:114:1
 returns-2 : tie.Need-returns-2
-returns-2 c = ?
+returns-2 c =
+    let done = c .before .before .before .before .before .before .before .before .before .before .before .before .before .before .before .before .before .before .before .before .before .before .before .before .before in
+    worked-found _ (c .before .before .before .before .before .before .before .before .before .before .before .before .before .before .before .before .before .before .before .r2 .given .1) (done .walk .ensures) (c .before .before .before .before .before .before .before .before .before .before .before .before .before .before .before .before .before .fewer .ensures) (c .before .before .before .before .before .before .before .before .before .before .before .before .give .ensures .0) (c .before .before .before .before .before .before .before .before .before .before .before .before .give .ensures .1) (c .before .before .before .before .before .before .zero-words2 .ensures) (c .before .before .zero-floats2 .ensures)
 
 pub work-spec : {M : Type 1} → statement M
 work-spec =
