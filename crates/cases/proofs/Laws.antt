@@ -1,17 +1,19 @@
 -- One turn and the end of each loop over a text. Assumes nothing.
 use mathlib.Core.Path.{_≡_, refl, sym, ap, _∙_}
 use mathlib.Core.Bool.{Bool, true, false, _&&_}
-use mathlib.Core.List.{List, [], _∷_}
-use Prim.Native.Nat.{ℕ, suc, _+_, _*_, _≤_, _<_}
+use mathlib.Core.List.{List, [], _∷_, _++_, append-assoc, append-nil}
+use Prim.Native.Nat.{ℕ, suc, _+_, _-_, _*_, _≤_, _<_}
 use native.Mathlib.Numerals.{add-one}
 use lib.Dec.{leb, eqb}
-use lib.ListN.{length, drop, getD, drop-of-length-le}
-use lib.Seq.{drop-cons}
+use native.Mathlib.Omega.{arith}
+use lib.ListN.{length, take, drop, getD, set, length-set, drop-of-length-le}
+use lib.Seq.{drop-cons, take-all, take-suc-set}
 use borrow.Author.Tests.{leb-true, eq-eqb, ne-eqb, le-leb, lt-leb}
 use Rattle.cases.specs.declared.Cursor.{Cursor}
 use Rattle.cases.specs.declared.Digits.{Digits}
+use Rattle.cases.specs.declared.Word.{Word}
 use Rattle.cases.specs.declared.Token.the-variants.{Number, End, TooLarge, Strange}
-use Rattle.cases.specs.Text.{within, after, skipped, digitOf, digitsOf, limit, counted, ended, tokenOf, tokenFrom, tokenAt}
+use Rattle.cases.specs.Text.{within, after, skipped, digitOf, digitsOf, limit, counted, ended, tokenOf, tokenFrom, tokenAt, wordAt, wordsAt, behind}
 
 both : (x y : Bool) → x && y ≡ true → (x ≡ true) × (y ≡ true)
 both true y e = (refl, e)
@@ -81,3 +83,49 @@ module _ (text : List ℕ) (c : Cursor) (start : ℕ) (e : start ≡ skipped 0 (
       unfolding tokenAt tokenFrom tokenOf
       token-number h =
           rw (← e, ← read, lt-leb (length text) start inside, ne-eqb (d .at) start some, lt-leb limit (d .value) h)
+
+-- A slice filled with the next numbers from the front: the first `i` places are written, and what is left says what the whole says.
+pub record Filling (text : List ℕ) (out₀ : List ℕ) (c₀ : Cursor) (out : List ℕ) (i : ℕ) (c : Cursor) : Type 0 where
+  pub long : length out ≡ length out₀
+  pub within : i ≤ length out
+  pub list : take i out ++ wordsAt (length out - i) text c ≡ wordsAt (length out₀) text c₀
+  pub place : behind (length out - i) text c ≡ behind (length out₀) text c₀
+
+module _ (text : List ℕ) (out₀ : List ℕ) (c₀ : Cursor) where
+  pub filling-none : Filling text out₀ c₀ out₀ 0 c₀
+  filling-none =
+      let e : length out₀ - 0 ≡ length out₀ = omega arith in
+      record {
+        long = refl;
+        within = omega arith;
+        list = ap (λ (n : ℕ). wordsAt n text c₀) e;
+        place = ap (λ (n : ℕ). behind n text c₀) e;
+      }
+
+  module _ (out : List ℕ) (i : ℕ) (c : Cursor) (inv : Filling text out₀ c₀ out i c) where
+    pub filling-turn :
+        (w : Word) → w ≡ wordAt text c → i < length out → Filling text out₀ c₀ (set out i (w .value)) (i + 1) (w .cursor)
+    unfolding wordsAt behind
+    filling-turn w e h =
+        let m = length out - (i + 1) in
+        let less : length out - i ≡ suc m = omega arith in
+        let long = length-set out i (w .value) in
+        let here : wordsAt (length out - i) text c ≡ w .value ∷ wordsAt m text (w .cursor) =
+        ap (λ (n : ℕ). wordsAt n text c) less ∙ ap (λ (v : Word). v .value ∷ wordsAt m text (v .cursor)) (sym e) in
+        let there : behind (length out - i) text c ≡ behind m text (w .cursor) =
+        ap (λ (n : ℕ). behind n text c) less ∙ ap (λ (v : Word). behind m text (v .cursor)) (sym e) in
+        let front : take (i + 1) (set out i (w .value)) ≡ take i out ++ (w .value ∷ []) = rw (add-one, take-suc-set out i (w .value)) in
+        record {
+          long = long ∙ inv .long;
+          within = omega arith;
+          list = rw (long, front, append-assoc) (ap (λ (l : List ℕ). take i out ++ l) (sym here) ∙ inv .list);
+          place = rw long (sym there ∙ inv .place);
+        }
+
+    pub filling-end : length out ≤ i → (out ≡ wordsAt (length out₀) text c₀) × (c ≡ behind (length out₀) text c₀)
+    unfolding wordsAt behind
+    filling-end h =
+        let none : length out - i ≡ 0 = omega arith in
+        let list : take i out ++ [] ≡ wordsAt (length out₀) text c₀ = rw none at (inv .list) in
+        let place : c ≡ behind (length out₀) text c₀ = rw none at (inv .place) in
+        (sym (take-all i out h) ∙ sym (append-nil (take i out)) ∙ list, place)

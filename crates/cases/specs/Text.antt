@@ -7,6 +7,7 @@ use lib.ListN.{length, drop}
 use Rattle.cases.specs.declared.Cursor.{Cursor}
 use Rattle.cases.specs.declared.Digits.{Digits}
 use Rattle.cases.specs.declared.Token.{Token}
+use Rattle.cases.specs.declared.Word.{Word}
 use Rattle.cases.specs.declared.Token.the-variants.{Number, End, TooLarge, Strange}
 
 unfoldable pub within : ℕ → ℕ → ℕ → Bool
@@ -87,3 +88,27 @@ first = record { at = 0; count = 0; sum = 0; fault = 0 }
 -- Each number takes a byte at least, and the end a turn, so the turns suffice.
 unfoldable pub numbersIn : List ℕ → Numbers
 numbersIn text = numbersFrom (suc (length text)) text (tokenAt text first)
+
+-- What went wrong first is kept: 1 the end, 2 a number that is too large, 3 a byte of no list, 4 a number that the format does not allow
+unfoldable pub faulted : Cursor → ℕ → Cursor
+faulted c fault =
+    cond (eqb (c .fault) 0) (record { at = c .at; count = c .count; sum = c .sum; fault = fault }) c
+
+unfoldable pub wordOf : Cursor → Token → Word
+wordOf c (Number x next) = record { value = x; cursor = next }
+wordOf c (End _) = record { value = 0; cursor = faulted c 1 }
+wordOf c (TooLarge _) = record { value = 0; cursor = faulted c 2 }
+wordOf c (Strange _) = record { value = 0; cursor = faulted c 3 }
+
+-- The next number, and 0 where there is none or something went wrong before
+unfoldable pub wordAt : List ℕ → Cursor → Word
+wordAt text c = cond (eqb (c .fault) 0) (wordOf c (tokenAt text c)) (record { value = 0; cursor = c })
+
+-- The next n numbers, and the place behind them
+unfoldable pub wordsAt : ℕ → List ℕ → Cursor → List ℕ
+wordsAt zero text c = []
+wordsAt (suc n) text c = let w = wordAt text c in w .value ∷ wordsAt n text (w .cursor)
+
+unfoldable pub behind : ℕ → List ℕ → Cursor → Cursor
+behind zero text c = c
+behind (suc n) text c = behind n text (wordAt text c .cursor)

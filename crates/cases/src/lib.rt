@@ -2,7 +2,7 @@
 ghost use mathlib.Core.Path.{_≡_};
 ghost use Prim.Native.Nat.{_≤_};
 ghost use lib.ListN.{length, drop};
-ghost use Rattle.cases.specs.Text.{within, separates, after, skipped, digitOf, digitsOf, tokenAt};
+ghost use Rattle.cases.specs.Text.{within, separates, after, skipped, digitOf, digitsOf, tokenAt, faulted, wordAt, wordsAt, behind, first};
 
 /// A place in a list, the numbers read up to it with their sum modulo 2^32, and what went wrong
 /// first (`FINE` where nothing did).
@@ -17,6 +17,24 @@ pub struct Cursor {
 pub struct Digits {
     pub value: u64,
     pub at: usize,
+}
+
+/// A number of a list, and the place behind it.
+pub struct Word {
+    pub value: u32,
+    pub cursor: Cursor,
+}
+
+/// A length of a list, and the place behind it.
+pub struct Size {
+    pub value: usize,
+    pub cursor: Cursor,
+}
+
+/// The first place where a slice differs from a list, or the slice's length, and the place behind.
+pub struct Compared {
+    pub at: usize,
+    pub cursor: Cursor,
 }
 
 /// What stands next in a list: a number with the place behind it; the end; a number of 2^32 or more;
@@ -166,4 +184,180 @@ pub fn next_number(text: &[u8], c: Cursor) -> Token
             fault: c.fault,
         },
     )
+}
+
+/// Nothing went wrong.
+pub const FINE: u32 = 0;
+/// The text ended where a number was asked for.
+pub const ENDED: u32 = 1;
+/// A number was 2^32 or more.
+pub const TOO_LARGE: u32 = 2;
+/// A byte belongs to no list.
+pub const STRANGE: u32 = 3;
+/// A number was one that the format does not allow there.
+pub const UNEXPECTED: u32 = 4;
+
+/// Room for the text of a list.
+pub fn room() -> [u8; 524288]
+    ensures { λ r. ⌜ 524288 ≡ length r ⌝ }
+{
+    [0; 524288]
+}
+
+/// The place where a list starts.
+pub fn start() -> Cursor
+    ensures { λ r. ⌜ r ≡ first ⌝ }
+{
+    Cursor {
+        at: 0,
+        count: 0,
+        sum: 0,
+        fault: FINE,
+    }
+}
+
+/// The cursor with a fault, where it has none yet.
+pub fn faulted(c: Cursor, fault: u32) -> Cursor
+    ensures { λ r. ⌜ r ≡ faulted c fault ⌝ }
+{
+    if c.fault == 0 {
+        return Cursor {
+            at: c.at,
+            count: c.count,
+            sum: c.sum,
+            fault: fault,
+        };
+    }
+    c
+}
+
+/// The next number; 0 where there is none or something went wrong before, which the cursor says.
+pub fn read_word(text: &[u8], c: Cursor) -> Word
+    ensures { λ r. ⌜ r ≡ wordAt (now (text .entry)) c ⌝ }
+{
+    if c.fault == 0 {
+        let t = next_number(text, c);
+        match t {
+            Token::Number(x, next) => {
+                return Word {
+                    value: x,
+                    cursor: next,
+                };
+            }
+            Token::End(_) => {
+                return Word {
+                    value: 0,
+                    cursor: faulted(c, ENDED),
+                };
+            }
+            Token::TooLarge(_) => {
+                return Word {
+                    value: 0,
+                    cursor: faulted(c, TOO_LARGE),
+                };
+            }
+            Token::Strange(_) => {
+                return Word {
+                    value: 0,
+                    cursor: faulted(c, STRANGE),
+                };
+            }
+        }
+    }
+    Word {
+        value: 0,
+        cursor: c,
+    }
+}
+
+/// The next number as a length of at most `most`; a larger one is a fault.
+pub fn read_size(text: &[u8], c: Cursor, most: usize) -> Size
+    ensures { λ r. ⌜ r .value ≤ most ⌝ }
+{
+    let w = read_word(text, c);
+    let value = w.value as usize;
+    let cursor = w.cursor;
+    if value <= most {
+        return Size {
+            value: value,
+            cursor: cursor,
+        };
+    }
+    Size {
+        value: 0,
+        cursor: faulted(cursor, UNEXPECTED),
+    }
+}
+
+/// Passes the next `n` numbers.
+pub fn pass(text: &[u8], c: Cursor, n: usize) -> Cursor {
+    let mut left = n;
+    let mut cursor = c;
+    while left > 0 {
+        if cursor.fault != 0 {
+            return cursor;
+        }
+        let w = read_word(text, cursor);
+        cursor = w.cursor;
+        left -= 1;
+    }
+    cursor
+}
+
+/// Fills the slice with the next numbers.
+pub fn read_words(text: &[u8], c: Cursor, out: &mut [u32]) -> Cursor
+    ensures { λ _. ⌜ now (out .exit) ≡ wordsAt (length (now (out .entry))) (now (text .entry)) c ⌝ }
+    ensures { λ r. ⌜ r ≡ behind (length (now (out .entry))) (now (text .entry)) c ⌝ }
+{
+    let mut i: usize = 0;
+    let mut cursor = c;
+    while i < out.len() {
+        let w = read_word(text, cursor);
+        out[i] = w.value;
+        cursor = w.cursor;
+        i += 1;
+    }
+    cursor
+}
+
+/// The float of some bits, and 0.0 where they are a NaN's.
+pub fn float(bits: u32) -> f32 {
+    if bits % 0x8000_0000 > 0x7F80_0000 {
+        return 0.0;
+    }
+    f32::from_bits(bits)
+}
+
+/// Fills the slice with the next numbers, as the bits of floats.
+pub fn read_floats(text: &[u8], c: Cursor, out: &mut [f32]) -> Cursor {
+    let mut i: usize = 0;
+    let mut cursor = c;
+    while i < out.len() {
+        let w = read_word(text, cursor);
+        out[i] = float(w.value);
+        cursor = w.cursor;
+        i += 1;
+    }
+    cursor
+}
+
+/// Compares the slice with the next numbers.
+pub fn compare(text: &[u8], c: Cursor, ours: &[u32]) -> Compared {
+    let mut at = ours.len();
+    let mut i: usize = 0;
+    let mut cursor = c;
+    while i < ours.len() {
+        let w = read_word(text, cursor);
+        if w.value != ours[i] {
+            if at == ours.len() {
+                at = i;
+            }
+        }
+        cursor = w.cursor;
+        i += 1;
+    }
+    Compared {
+        at: at,
+        cursor: cursor,
+    }
 }
