@@ -289,6 +289,19 @@ pub fn read_size(text: &[u8], c: Cursor, most: usize) -> Size
     }
 }
 
+/// The product of two lengths, and 0 where one of them is over 65,536.
+pub fn area(a: usize, b: usize) -> usize
+    ensures { λ r. ⌜ r ≤ 4294967296 ⌝ }
+{
+    if a > 65536 {
+        return 0;
+    }
+    if b > 65536 {
+        return 0;
+    }
+    a * b
+}
+
 /// Passes the next `n` numbers.
 pub fn pass(text: &[u8], c: Cursor, n: usize) -> Cursor {
     let mut left = n;
