@@ -84,6 +84,15 @@ module _ (text : List ℕ) (c : Cursor) (start : ℕ) (e : start ≡ skipped 0 (
       token-number h =
           rw (← e, ← read, lt-leb (length text) start inside, ne-eqb (d .at) start some, lt-leb limit (d .value) h)
 
+-- The next of the numbers that are left
+pub words-turn :
+    (n i : ℕ) (text : List ℕ) (c : Cursor) (w : Word) → w ≡ wordAt text c → i < n
+    → wordsAt (n - i) text c ≡ w .value ∷ wordsAt (n - (i + 1)) text (w .cursor)
+unfolding wordsAt
+words-turn n i text c w e h =
+    let less : n - i ≡ suc (n - (i + 1)) = omega arith in
+    ap (λ (k : ℕ). wordsAt k text c) less ∙ ap (λ (v : Word). v .value ∷ wordsAt (n - (i + 1)) text (v .cursor)) (sym e)
+
 -- A slice filled with the next numbers from the front: the first `i` places are written, and what is left says what the whole says.
 pub record Filling (text : List ℕ) (out₀ : List ℕ) (c₀ : Cursor) (out : List ℕ) (i : ℕ) (c : Cursor) : Type 0 where
   pub long : length out ≡ length out₀
@@ -105,13 +114,12 @@ module _ (text : List ℕ) (out₀ : List ℕ) (c₀ : Cursor) where
   module _ (out : List ℕ) (i : ℕ) (c : Cursor) (inv : Filling text out₀ c₀ out i c) where
     pub filling-turn :
         (w : Word) → w ≡ wordAt text c → i < length out → Filling text out₀ c₀ (set out i (w .value)) (i + 1) (w .cursor)
-    unfolding wordsAt behind
+    unfolding behind
     filling-turn w e h =
         let m = length out - (i + 1) in
         let less : length out - i ≡ suc m = omega arith in
         let long = length-set out i (w .value) in
-        let here : wordsAt (length out - i) text c ≡ w .value ∷ wordsAt m text (w .cursor) =
-        ap (λ (n : ℕ). wordsAt n text c) less ∙ ap (λ (v : Word). v .value ∷ wordsAt m text (v .cursor)) (sym e) in
+        let here = words-turn (length out) i text c w e h in
         let there : behind (length out - i) text c ≡ behind m text (w .cursor) =
         ap (λ (n : ℕ). behind n text c) less ∙ ap (λ (v : Word). behind m text (v .cursor)) (sym e) in
         let front : take (i + 1) (set out i (w .value)) ≡ take i out ++ (w .value ∷ []) = rw (add-one, take-suc-set out i (w .value)) in

@@ -31,12 +31,6 @@ pub struct Size {
     pub cursor: Cursor,
 }
 
-/// The first place where a slice differs from a list, or the slice's length, and the place behind.
-pub struct Compared {
-    pub at: usize,
-    pub cursor: Cursor,
-}
-
 /// What stands next in a list: a number with the place behind it; the end; a number of 2^32 or more;
 /// or a byte that belongs to no list. The last two have their place.
 pub enum Token {
@@ -352,25 +346,4 @@ pub fn read_floats(text: &[u8], c: Cursor, out: &mut [f32]) -> Cursor {
         i += 1;
     }
     cursor
-}
-
-/// Compares the slice with the next numbers.
-pub fn compare(text: &[u8], c: Cursor, ours: &[u32]) -> Compared {
-    let mut at = ours.len();
-    let mut i: usize = 0;
-    let mut cursor = c;
-    while i < ours.len() {
-        let w = read_word(text, cursor);
-        if w.value != ours[i] {
-            if at == ours.len() {
-                at = i;
-            }
-        }
-        cursor = w.cursor;
-        i += 1;
-    }
-    Compared {
-        at: at,
-        cursor: cursor,
-    }
 }

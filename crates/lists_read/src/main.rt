@@ -1,17 +1,13 @@
 // Reads each list that an argument names to its end, and prints how many cases of each kind it has,
 // and how many numbers with their sum. What it must print, `oracle/make-lists` takes from the lists'
 // own heads and labels.
-mod walk;
-
 use cases::Cursor;
-use cases::Token;
 use libc::STDOUT_FILENO;
 
-// The cases passed, those of each kind, whether the end was met, and the place in the list.
+// The cases passed, those of each kind, and the place in the list.
 struct Tally {
     passed: u32,
     kinds: [u32; 7],
-    ended: bool,
     cursor: Cursor,
 }
 
@@ -19,65 +15,29 @@ fn none() -> Tally {
     Tally {
         passed: 0,
         kinds: [0; 7],
-        ended: false,
         cursor: cases::start(),
     }
 }
 
-// Nothing may follow the number of cases, which is the last.
-fn at_end(text: &[u8], c: Cursor) -> Cursor {
-    let t = cases::next_number(text, c);
-    match t {
-        Token::End(_) => c,
-        _ => cases::faulted(c, cases::UNEXPECTED),
+// A case is passed and counted.
+fn with_case(text: &[u8], t: Tally, kind: u32, c: Cursor) -> Tally {
+    let mut kinds = t.kinds;
+    let at = (kind % 7) as usize;
+    kinds[at] = std::num::wrapping_add_u32(kinds[at], 1);
+    Tally {
+        passed: std::num::wrapping_add_u32(t.passed, 1),
+        kinds: kinds,
+        cursor: kinds::pass_case(text, c, kind),
     }
 }
 
-// The list's end: the number of cases, and nothing more.
-fn end(text: &[u8], t: Tally, c: Cursor) -> Tally {
-    let total = cases::read_word(text, c);
+fn with_cursor(t: Tally, c: Cursor) -> Tally {
     let kinds = t.kinds;
-    let behind = total.cursor;
-    let cursor = if total.value == t.passed {
-        at_end(text, behind)
-    } else {
-        cases::faulted(behind, cases::UNEXPECTED)
-    };
     Tally {
         passed: t.passed,
         kinds: kinds,
-        ended: true,
-        cursor: cursor,
+        cursor: c,
     }
-}
-
-// A case: its number has been read, and its kind, input and answer are passed.
-fn one_case(text: &[u8], t: Tally, number: u32, c: Cursor) -> Tally {
-    let passed = std::num::wrapping_add_u32(t.passed, 1);
-    let kind = cases::read_word(text, c);
-    let cursor = if number == passed {
-        walk::one_case(text, kind.cursor, kind.value)
-    } else {
-        cases::faulted(c, cases::UNEXPECTED)
-    };
-    let mut kinds = t.kinds;
-    let at = (kind.value % 7) as usize;
-    kinds[at] = std::num::wrapping_add_u32(kinds[at], 1);
-    Tally {
-        passed: passed,
-        kinds: kinds,
-        ended: false,
-        cursor: cursor,
-    }
-}
-
-fn step(text: &[u8], t: Tally) -> Tally {
-    let number = cases::read_word(text, t.cursor);
-    let c = number.cursor;
-    if number.value == 0 {
-        return end(text, t, c);
-    }
-    one_case(text, t, number.value, c)
 }
 
 // A proved loop has to end: it counts its turns down, from more cases than a list has.
@@ -85,13 +45,11 @@ fn counted(text: &[u8]) -> Tally {
     let mut turns: u32 = 65536;
     let mut t = none();
     while turns > 0 {
-        if t.ended {
-            return t;
+        let case = replays::next_case(text, t.cursor, t.passed);
+        if case.kind == 0 {
+            return with_cursor(t, case.cursor);
         }
-        if t.cursor.fault != 0 {
-            return t;
-        }
-        let next = step(text, t);
+        let next = with_case(text, t, case.kind, case.cursor);
         t = next;
         turns -= 1;
     }
@@ -113,9 +71,13 @@ fn print(t: Tally) {
     put(kinds[6], b" links; ");
     put(t.cursor.count, b" numbers, sum ");
     put(t.cursor.sum, b"\n");
-    if t.cursor.fault != 0 {
-        put(t.cursor.fault, b" is the fault at byte ");
-        io::print_decimal(STDOUT_FILENO, t.cursor.at as u64);
+}
+
+// What went wrong first, and where.
+fn print_fault(c: Cursor) {
+    if c.fault != 0 {
+        put(c.fault, b" is the fault, at byte ");
+        io::print_decimal(STDOUT_FILENO, c.at as u64);
         io::write_all(STDOUT_FILENO, b"\n");
     }
 }
@@ -123,7 +85,9 @@ fn print(t: Tally) {
 fn read_list(fd: i32) {
     let mut room = cases::room();
     let n = io::read_full(fd, &mut room);
-    print(counted(&room[..n]));
+    let t = counted(&room[..n]);
+    print(t);
+    print_fault(t.cursor);
 }
 
 fn open_list(i: usize) {

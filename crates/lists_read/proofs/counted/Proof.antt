@@ -15,14 +15,17 @@ none-requires c κs = search needs
 loop-holds : tie.Need-loop-holds Inv-loop μ-loop
 loop-holds c = tt
 
+next-case-requires : tie.Need-next-case-requires Inv-loop μ-loop
+next-case-requires c κs = search needs
+
+with-cursor-requires : tie.Need-with-cursor-requires Inv-loop μ-loop
+with-cursor-requires c κs = search needs
+
 returns : tie.Need-returns Inv-loop μ-loop
 returns c = search needs
 
-returns-2 : tie.Need-returns-2 Inv-loop μ-loop
-returns-2 c = search needs
-
-step-requires : tie.Need-step-requires Inv-loop μ-loop
-step-requires c κs = search needs
+with-case-requires : tie.Need-with-case-requires Inv-loop μ-loop
+with-case-requires c κs = search needs
 
 sub-turns : tie.Need-sub-turns Inv-loop μ-loop
 sub-turns c = search needs
@@ -33,8 +36,8 @@ loop-less c = search needs
 loop-again : tie.Need-loop-again Inv-loop μ-loop
 loop-again c = tt
 
-returns-3 : tie.Need-returns-3 Inv-loop μ-loop
-returns-3 c = search needs
+returns-2 : tie.Need-returns-2 Inv-loop μ-loop
+returns-2 c = search needs
 
 pub counted-spec : {M : Type 1} → statement M
 counted-spec =
@@ -44,10 +47,11 @@ counted-spec =
     μ-loop
     none-requires
     loop-holds
+    next-case-requires
+    with-cursor-requires
     returns
-    returns-2
-    step-requires
+    with-case-requires
     sub-turns
     loop-less
     loop-again
-    returns-3)
+    returns-2)

@@ -1,13 +1,13 @@
--- `lists_read::walk::iterations` is safe and ends. Assumes nothing.
+-- `kinds::moves` is safe and ends. Assumes nothing.
 use borrow.Author.Needs.{needs}
-use Rattle.lists_read.proofs.walk.iterations.Statement.{statement}
-use Rattle.lists_read.proofs.walk.iterations.Tie as tie
+use Rattle.kinds.proofs.moves.Statement.{statement}
+use Rattle.kinds.proofs.moves.Tie as tie
 
 abbrev Inv-loop : tie.InvT-loop
-Inv-loop text count n k left₀ cursor₀ left cursor = Unit {0}
+Inv-loop text count left₀ cursor₀ left cursor = Unit {0}
 
 abbrev μ-loop : tie.MeasureT-loop
-μ-loop text count n k left₀ cursor₀ left cursor = left
+μ-loop text count left₀ cursor₀ left cursor = left
 
 loop-holds : tie.Need-loop-holds Inv-loop μ-loop
 loop-holds c = tt
@@ -15,11 +15,14 @@ loop-holds c = tt
 returns : tie.Need-returns Inv-loop μ-loop
 returns c = search needs
 
+read-size-requires : tie.Need-read-size-requires Inv-loop μ-loop
+read-size-requires c κs = search needs
+
+mul-pass : tie.Need-mul-pass Inv-loop μ-loop
+mul-pass c = search needs
+
 pass-requires : tie.Need-pass-requires Inv-loop μ-loop
 pass-requires c κs = search needs
-
-state-requires : tie.Need-state-requires Inv-loop μ-loop
-state-requires c κs = search needs
 
 sub-left : tie.Need-sub-left Inv-loop μ-loop
 sub-left c = search needs
@@ -33,16 +36,17 @@ loop-again c = tt
 returns-2 : tie.Need-returns-2 Inv-loop μ-loop
 returns-2 c = search needs
 
-pub iterations-spec : {M : Type 1} → statement M
-iterations-spec =
+pub moves-spec : {M : Type 1} → statement M
+moves-spec =
     tie.close
     (tie.spec
     Inv-loop
     μ-loop
     loop-holds
     returns
+    read-size-requires
+    mul-pass
     pass-requires
-    state-requires
     sub-left
     loop-less
     loop-again

@@ -137,8 +137,8 @@ fn links(text: &[u8], c: Cursor) -> Cursor {
     )
 }
 
-// Passes the input and the answer of a case of some kind; a kind that there is not is a fault.
-pub fn one_case(text: &[u8], c: Cursor, kind: u32) -> Cursor {
+/// Passes the input and the answer of a case of some kind; a kind that there is not is a fault.
+pub fn pass_case(text: &[u8], c: Cursor, kind: u32) -> Cursor {
     match kind {
         1 => build(text, c),
         2 => search(text, c),

@@ -1,7 +1,7 @@
--- `lists_read::walk::runs` is safe and ends. Assumes nothing.
+-- `kinds::runs` is safe and ends. Assumes nothing.
 use borrow.Author.Needs.{needs}
-use Rattle.lists_read.proofs.walk.runs.Statement.{statement}
-use Rattle.lists_read.proofs.walk.runs.Tie as tie
+use Rattle.kinds.proofs.runs.Statement.{statement}
+use Rattle.kinds.proofs.runs.Tie as tie
 
 abbrev Inv-loop : tie.InvT-loop
 Inv-loop text count left₀ cursor₀ left cursor = Unit {0}
