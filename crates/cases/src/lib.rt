@@ -296,6 +296,13 @@ pub fn area(a: usize, b: usize) -> usize
     a * b
 }
 
+/// The less of two lengths, for a part of a slice.
+pub fn least(a: usize, b: usize) -> usize
+    ensures { λ r. ⌜ r ≤ b ⌝ }
+{
+    if a < b { a } else { b }
+}
+
 /// Passes the next `n` numbers.
 pub fn pass(text: &[u8], c: Cursor, n: usize) -> Cursor {
     let mut left = n;
