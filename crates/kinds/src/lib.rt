@@ -1,11 +1,11 @@
-// Passes one case of each kind, by the format of oracle/README.md.
+// Passes one case of each kind, and its parts, by the format of oracle/README.md.
 use cases::Cursor;
 
 // No length in a list is larger.
 const MOST: usize = 65536;
 
-// Passes `count` runs, each after its length.
-fn runs(text: &[u8], c: Cursor, count: usize) -> Cursor {
+/// Passes `count` runs, each after its length.
+pub fn pass_runs(text: &[u8], c: Cursor, count: usize) -> Cursor {
     let mut left = count;
     let mut cursor = c;
     while left > 0 {
@@ -27,7 +27,7 @@ fn build(text: &[u8], c: Cursor) -> Cursor {
     let init_k = cases::read_word(text, n.cursor);
     let row = cases::read_size(text, init_k.cursor, MOST);
     let given = cases::pass(text, row.cursor, 2 + cases::area(n.value, d.value));
-    let exact = runs(text, given, n.value);
+    let exact = pass_runs(text, given, n.value);
     cases::pass(text, exact, 5 * cases::area(n.value, row.value))
 }
 
@@ -38,7 +38,7 @@ fn search(text: &[u8], c: Cursor) -> Cursor {
     let n = cases::read_size(text, d.cursor, MOST);
     let row = cases::read_size(text, n.cursor, MOST);
     let k = cases::read_word(text, row.cursor);
-    let roots = runs(text, k.cursor, 1);
+    let roots = pass_runs(text, k.cursor, 1);
     let given = cases::pass(
         text,
         roots,
@@ -48,10 +48,10 @@ fn search(text: &[u8], c: Cursor) -> Cursor {
     cases::pass(text, m.cursor, 2 * m.value + 1)
 }
 
-// Passes a descent's state: lists, four contexts for each node, and the visited pairs.
-fn state(text: &[u8], c: Cursor, n: usize, k: usize) -> Cursor {
+/// Passes a descent's state: lists, four contexts for each node, and the visited pairs.
+pub fn pass_state(text: &[u8], c: Cursor, n: usize, k: usize) -> Cursor {
     let lists = cases::pass(text, c, 2 * cases::area(n, k));
-    let contexts = runs(text, lists, cases::area(4, n));
+    let contexts = pass_runs(text, lists, cases::area(4, n));
     cases::pass(text, contexts, (cases::area(n, n) + 31) / 32)
 }
 
@@ -64,7 +64,7 @@ fn iterations(text: &[u8], c: Cursor, count: usize, n: usize, k: usize) -> Curso
             return cursor;
         }
         let counts = cases::pass(text, cursor, 2);
-        cursor = state(text, counts, n, k);
+        cursor = pass_state(text, counts, n, k);
         left -= 1;
     }
     cursor
@@ -76,10 +76,10 @@ fn descent(text: &[u8], c: Cursor) -> Cursor {
     let n = cases::read_size(text, d.cursor, MOST);
     let k = cases::read_size(text, n.cursor, MOST);
     let lanes = cases::pass(text, k.cursor, 1 + cases::area(n.value, d.value));
-    let begin = runs(text, lanes, 1);
+    let begin = pass_runs(text, lanes, 1);
     let count = cases::read_size(text, begin, MOST);
-    let draws = runs(text, count.cursor, count.value);
-    let begun = state(text, draws, n.value, k.value);
+    let draws = pass_runs(text, count.cursor, count.value);
+    let begun = pass_state(text, draws, n.value, k.value);
     iterations(text, begun, count.value, n.value, k.value)
 }
 
@@ -89,8 +89,8 @@ fn iteration(text: &[u8], c: Cursor) -> Cursor {
     let n = cases::read_size(text, d.cursor, MOST);
     let k = cases::read_size(text, n.cursor, MOST);
     let lanes = cases::pass(text, k.cursor, 1 + cases::area(n.value, d.value));
-    let given = state(text, lanes, n.value, k.value);
-    let draws = runs(text, given, 1);
+    let given = pass_state(text, lanes, n.value, k.value);
+    let draws = pass_runs(text, given, 1);
     iterations(text, draws, 1, n.value, k.value)
 }
 

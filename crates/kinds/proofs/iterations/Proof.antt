@@ -18,8 +18,8 @@ returns c = search needs
 pass-requires : tie.Need-pass-requires Inv-loop μ-loop
 pass-requires c κs = search needs
 
-state-requires : tie.Need-state-requires Inv-loop μ-loop
-state-requires c κs = search needs
+pass-state-requires : tie.Need-pass-state-requires Inv-loop μ-loop
+pass-state-requires c κs = search needs
 
 sub-left : tie.Need-sub-left Inv-loop μ-loop
 sub-left c = search needs
@@ -42,7 +42,7 @@ iterations-spec =
     loop-holds
     returns
     pass-requires
-    state-requires
+    pass-state-requires
     sub-left
     loop-less
     loop-again

@@ -1,7 +1,7 @@
--- `kinds::runs` is safe and ends. Assumes nothing.
+-- `kinds::pass_runs` is safe and ends. Assumes nothing.
 use borrow.Author.Needs.{needs}
-use Rattle.kinds.proofs.runs.Statement.{statement}
-use Rattle.kinds.proofs.runs.Tie as tie
+use Rattle.kinds.proofs.pass_runs.Statement.{statement}
+use Rattle.kinds.proofs.pass_runs.Tie as tie
 
 abbrev Inv-loop : tie.InvT-loop
 Inv-loop text count left₀ cursor₀ left cursor = Unit {0}
@@ -33,8 +33,8 @@ loop-again c = tt
 returns-2 : tie.Need-returns-2 Inv-loop μ-loop
 returns-2 c = search needs
 
-pub runs-spec : {M : Type 1} → statement M
-runs-spec =
+pub pass-runs-spec : {M : Type 1} → statement M
+pass-runs-spec =
     tie.close
     (tie.spec
     Inv-loop
