@@ -1,0 +1,139 @@
+-- One turn and the end of each loop over a text. Assumes nothing.
+use mathlib.Core.Path.{_≡_, refl, sym, ap, _∙_}
+use mathlib.Core.Bool.{Bool, true, false, _&&_}
+use mathlib.Core.List.{List, [], _∷_, _++_, append-assoc, append-nil}
+use Prim.Native.Nat.{ℕ, suc, _+_, _-_, _*_, _≤_, _<_}
+use native.Mathlib.Numerals.{add-one}
+use lib.Dec.{leb, eqb}
+use native.Mathlib.Omega.{arith}
+use lib.ListN.{length, take, drop, getD, set, length-set, drop-of-length-le}
+use lib.Seq.{drop-cons, take-all, take-suc-set}
+use borrow.Author.Tests.{leb-true, eq-eqb, ne-eqb, le-leb, lt-leb}
+use Rattle.cases.specs.declared.Cursor.{Cursor}
+use Rattle.cases.specs.declared.Digits.{Digits}
+use Rattle.cases.specs.declared.Word.{Word}
+use Rattle.cases.specs.declared.Token.the-variants.{Number, End, TooLarge, Strange}
+use Rattle.cases.specs.Text.{within, after, skipped, digitOf, digitsOf, limit, counted, ended, tokenOf, tokenFrom, tokenAt, wordAt, wordsAt, behind}
+
+both : (x y : Bool) → x && y ≡ true → (x ≡ true) × (y ≡ true)
+both true y e = (refl, e)
+both false y e = (e, cc)
+
+pub within-bounds : (low high b : ℕ) → within low high b ≡ true → (low ≤ b) × (b ≤ high)
+unfolding within
+within-bounds low high b e =
+    let t = both (leb low b) (leb b high) e in
+    (leb-true low b (t .0), leb-true b high (t .1))
+
+module _ (text : List ℕ) (at : ℕ) where
+  pub skipped-end : (mode : ℕ) → length text ≤ at → skipped mode (drop at text) at ≡ at
+  unfolding skipped
+  skipped-end mode h = rw (drop-of-length-le text h)
+
+  pub skipped-stop : (mode : ℕ) → at < length text → after mode (getD text at 0) ≡ 2 → skipped mode (drop at text) at ≡ at
+  unfolding skipped
+  skipped-stop mode h stop = rw (drop-cons text at 0 h, eq-eqb _ 2 stop)
+
+  pub skipped-turn :
+      (mode next : ℕ) → at < length text → next ≡ after mode (getD text at 0) → (next ≡ 2 → ⊥)
+      → skipped next (drop (at + 1) text) (at + 1) ≡ skipped mode (drop at text) at
+  unfolding skipped
+  skipped-turn mode next h e on = rw (drop-cons text at 0 h, ← e, ne-eqb next 2 on, add-one)
+
+  pub digits-end : (value : ℕ) → length text ≤ at → digitsOf value (drop at text) at ≡ record { value = value; at = at }
+  unfolding digitsOf
+  digits-end value h = rw (drop-of-length-le text h)
+
+  pub digits-stop :
+      (value : ℕ) → at < length text → digitOf (getD text at 0) ≡ 10 → digitsOf value (drop at text) at ≡ record { value = value; at = at }
+  unfolding digitsOf
+  digits-stop value h stop = rw (drop-cons text at 0 h, eq-eqb _ 10 stop)
+
+  pub digits-full :
+      (value digit : ℕ) → at < length text → digit ≡ digitOf (getD text at 0) → (digit ≡ 10 → ⊥) → limit ≤ value
+      → digitsOf value (drop at text) at ≡ record { value = value; at = at }
+  unfolding digitsOf
+  digits-full value digit h e on full = rw (drop-cons text at 0 h, ← e, ne-eqb digit 10 on, le-leb limit value full)
+
+  pub digits-turn :
+      (value digit : ℕ) → at < length text → digit ≡ digitOf (getD text at 0) → (digit ≡ 10 → ⊥) → value < limit
+      → digitsOf (value * 10 + digit) (drop (at + 1) text) (at + 1) ≡ digitsOf value (drop at text) at
+  unfolding digitsOf
+  digits-turn value digit h e on small =
+      rw (drop-cons text at 0 h, ← e, ne-eqb digit 10 on, lt-leb limit value small, add-one)
+
+-- The ways out of `next_number`
+module _ (text : List ℕ) (c : Cursor) (start : ℕ) (e : start ≡ skipped 0 (drop (c .at) text) (c .at)) where
+  pub token-end : length text ≤ start → End (ended c start) ≡ tokenAt text c
+  unfolding tokenAt tokenFrom tokenOf
+  token-end h = rw (← e, le-leb (length text) start h)
+
+  module _ (inside : start < length text) (d : Digits) (read : d ≡ digitsOf 0 (drop start text) start) where
+    pub token-strange : d .at ≡ start → Strange start ≡ tokenAt text c
+    unfolding tokenAt tokenFrom tokenOf
+    token-strange h = rw (← e, ← read, lt-leb (length text) start inside, eq-eqb (d .at) start h)
+
+    module _ (some : d .at ≡ start → ⊥) where
+      pub token-large : limit ≤ d .value → TooLarge start ≡ tokenAt text c
+      unfolding tokenAt tokenFrom tokenOf
+      token-large h =
+          rw (← e, ← read, lt-leb (length text) start inside, ne-eqb (d .at) start some, le-leb limit (d .value) h)
+
+      pub token-number : d .value < limit → Number (d .value) (counted c d) ≡ tokenAt text c
+      unfolding tokenAt tokenFrom tokenOf
+      token-number h =
+          rw (← e, ← read, lt-leb (length text) start inside, ne-eqb (d .at) start some, lt-leb limit (d .value) h)
+
+-- The next of the numbers that are left
+pub words-turn :
+    (n i : ℕ) (text : List ℕ) (c : Cursor) (w : Word) → w ≡ wordAt text c → i < n
+    → wordsAt (n - i) text c ≡ w .value ∷ wordsAt (n - (i + 1)) text (w .cursor)
+unfolding wordsAt
+words-turn n i text c w e h =
+    let less : n - i ≡ suc (n - (i + 1)) = omega arith in
+    ap (λ (k : ℕ). wordsAt k text c) less ∙ ap (λ (v : Word). v .value ∷ wordsAt (n - (i + 1)) text (v .cursor)) (sym e)
+
+-- A slice filled with the next numbers from the front: the first `i` places are written, and what is left says what the whole says.
+pub record Filling (text : List ℕ) (out₀ : List ℕ) (c₀ : Cursor) (out : List ℕ) (i : ℕ) (c : Cursor) : Type 0 where
+  pub long : length out ≡ length out₀
+  pub within : i ≤ length out
+  pub list : take i out ++ wordsAt (length out - i) text c ≡ wordsAt (length out₀) text c₀
+  pub place : behind (length out - i) text c ≡ behind (length out₀) text c₀
+
+module _ (text : List ℕ) (out₀ : List ℕ) (c₀ : Cursor) where
+  pub filling-none : Filling text out₀ c₀ out₀ 0 c₀
+  filling-none =
+      let e : length out₀ - 0 ≡ length out₀ = omega arith in
+      record {
+        long = refl;
+        within = omega arith;
+        list = ap (λ (n : ℕ). wordsAt n text c₀) e;
+        place = ap (λ (n : ℕ). behind n text c₀) e;
+      }
+
+  module _ (out : List ℕ) (i : ℕ) (c : Cursor) (inv : Filling text out₀ c₀ out i c) where
+    pub filling-turn :
+        (w : Word) → w ≡ wordAt text c → i < length out → Filling text out₀ c₀ (set out i (w .value)) (i + 1) (w .cursor)
+    unfolding behind
+    filling-turn w e h =
+        let m = length out - (i + 1) in
+        let less : length out - i ≡ suc m = omega arith in
+        let long = length-set out i (w .value) in
+        let here = words-turn (length out) i text c w e h in
+        let there : behind (length out - i) text c ≡ behind m text (w .cursor) =
+        ap (λ (n : ℕ). behind n text c) less ∙ ap (λ (v : Word). behind m text (v .cursor)) (sym e) in
+        let front : take (i + 1) (set out i (w .value)) ≡ take i out ++ (w .value ∷ []) = rw (add-one, take-suc-set out i (w .value)) in
+        record {
+          long = long ∙ inv .long;
+          within = omega arith;
+          list = rw (long, front, append-assoc) (ap (λ (l : List ℕ). take i out ++ l) (sym here) ∙ inv .list);
+          place = rw long (sym there ∙ inv .place);
+        }
+
+    pub filling-end : length out ≤ i → (out ≡ wordsAt (length out₀) text c₀) × (c ≡ behind (length out₀) text c₀)
+    unfolding wordsAt behind
+    filling-end h =
+        let none : length out - i ≡ 0 = omega arith in
+        let list : take i out ++ [] ≡ wordsAt (length out₀) text c₀ = rw none at (inv .list) in
+        let place : c ≡ behind (length out₀) text c₀ = rw none at (inv .place) in
+        (sym (take-all i out h) ∙ sym (append-nil (take i out)) ∙ list, place)

@@ -1,0 +1,53 @@
+-- `kinds::moves` is safe and ends. Assumes nothing.
+use borrow.Author.Needs.{needs}
+use Rattle.kinds.proofs.moves.Statement.{statement}
+use Rattle.kinds.proofs.moves.Tie as tie
+
+abbrev Inv-loop : tie.InvT-loop
+Inv-loop text count left₀ cursor₀ left cursor = Unit {0}
+
+abbrev μ-loop : tie.MeasureT-loop
+μ-loop text count left₀ cursor₀ left cursor = left
+
+loop-holds : tie.Need-loop-holds Inv-loop μ-loop
+loop-holds c = tt
+
+returns : tie.Need-returns Inv-loop μ-loop
+returns c = search needs
+
+read-size-requires : tie.Need-read-size-requires Inv-loop μ-loop
+read-size-requires c κs = search needs
+
+mul-pass : tie.Need-mul-pass Inv-loop μ-loop
+mul-pass c = search needs
+
+pass-requires : tie.Need-pass-requires Inv-loop μ-loop
+pass-requires c κs = search needs
+
+sub-left : tie.Need-sub-left Inv-loop μ-loop
+sub-left c = search needs
+
+loop-less : tie.Need-loop-less Inv-loop μ-loop
+loop-less c = search needs
+
+loop-again : tie.Need-loop-again Inv-loop μ-loop
+loop-again c = tt
+
+returns-2 : tie.Need-returns-2 Inv-loop μ-loop
+returns-2 c = search needs
+
+pub moves-spec : {M : Type 1} → statement M
+moves-spec =
+    tie.close
+    (tie.spec
+    Inv-loop
+    μ-loop
+    loop-holds
+    returns
+    read-size-requires
+    mul-pass
+    pass-requires
+    sub-left
+    loop-less
+    loop-again
+    returns-2)

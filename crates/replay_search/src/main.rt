@@ -1,0 +1,198 @@
+// Replays the oracle's searches: each case of the list is given to `search`, on lent places full of
+// junk, and what it answers and leaves is compared with what the Rust answered.
+use cases::Cursor;
+use rules::SearchAnswer;
+use tallies::Outcome;
+use tallies::Tally;
+
+// The kind of a search in a list.
+const SEARCH: u32 = 2;
+// What lent places hold before a call.
+const JUNK: u32 = 0xCDCD_CDCD;
+
+// The numbers of a case, how many floats its lanes and query are, and the place of its roots in the list.
+struct Shape {
+    dimension: usize,
+    n: usize,
+    points: usize,
+    row: usize,
+    k: usize,
+    roots: usize,
+    cursor: Cursor,
+}
+
+fn read_shape(text: &[u8], c: Cursor) -> Shape {
+    let d = cases::read_size(text, c, 64);
+    let n = cases::read_size(text, d.cursor, 256);
+    let row = cases::read_size(text, n.cursor, 64);
+    let k = cases::read_size(text, row.cursor, 64);
+    let roots = cases::read_size(text, k.cursor, 64);
+    let cursor = roots.cursor;
+    Shape {
+        dimension: d.value,
+        n: n.value,
+        points: cases::area(n.value + 1, d.value),
+        row: row.value,
+        k: k.value,
+        roots: roots.value,
+        cursor: cursor,
+    }
+}
+
+// Passes the answer of a case: what differs is known.
+fn pass_answer(text: &[u8], c: Cursor, differs: u32) -> Outcome {
+    let m = cases::read_size(text, c, 64);
+    let cursor = m.cursor;
+    Outcome {
+        differs: differs,
+        cursor: cases::pass(text, cursor, 2 * m.value + 1),
+    }
+}
+
+// The results and the takings, beside the list's.
+fn beside(text: &[u8], c: Cursor, nodes: &[u32], bits: &[u32], takings: usize) -> Outcome {
+    let a = replays::compare(text, c, nodes);
+    let b = replays::compare(text, a.cursor, bits);
+    let t = cases::read_word(text, b.cursor);
+    let cursor = t.cursor;
+    let o = Outcome {
+        differs: tallies::NOTHING,
+        cursor: cursor,
+    };
+    let p = tallies::and(o, a.at == nodes.len(), tallies::NODES);
+    let q = tallies::and(p, b.at == bits.len(), tallies::BITS);
+    tallies::and(q, t.value as usize == takings, tallies::COUNT)
+}
+
+// What was found, beside the list's answer; further places are unchanged.
+fn found(text: &[u8], c: Cursor, m: usize, takings: usize, nodes: &[u32], bits: &[u32]) -> Outcome {
+    let listed = cases::read_size(text, c, 64);
+    let cursor = listed.cursor;
+    if m != listed.value {
+        return pass_answer(text, c, tallies::LENGTH);
+    }
+    if m > nodes.len() {
+        return pass_answer(text, c, tallies::LENGTH);
+    }
+    if m > bits.len() {
+        return pass_answer(text, c, tallies::LENGTH);
+    }
+    let o = beside(text, cursor, &nodes[..m], &bits[..m], takings);
+    let p = tallies::and(o, replays::all_words(nodes, m, JUNK), tallies::BEYOND);
+    tallies::and(p, replays::all_words(bits, m, JUNK), tallies::BEYOND)
+}
+
+// The call. `c` is the place of the answer in the list.
+fn searched(
+    text: &[u8],
+    c: Cursor,
+    s: Shape,
+    lanes: &[f32],
+    query: &[f32],
+    graph: &[u32],
+    roots: &[u32],
+) -> Outcome {
+    let mut nodes = [JUNK; 64];
+    let mut bits = [JUNK; 64];
+    let mut words = [JUNK; 2048];
+    let mut floats = [1.5f32; 2048];
+    let answer = search::search(
+        s.dimension,
+        s.n,
+        lanes,
+        graph,
+        s.row,
+        roots,
+        query,
+        s.k,
+        &mut nodes,
+        &mut bits,
+        &mut words,
+        &mut floats,
+    );
+    match answer {
+        SearchAnswer::Found { m, takings } => {
+            let o = found(text, c, m, takings, &nodes, &bits);
+            tallies::with_scratch(o, &words, &floats)
+        }
+        SearchAnswer::Refused(_) => pass_answer(text, c, tallies::REFUSED),
+    }
+}
+
+fn with_points(
+    text: &[u8],
+    c: Cursor,
+    s: Shape,
+    points: &[f32],
+    graph: &[u32],
+    roots: &[u32],
+) -> Outcome {
+    let cut = cases::least(cases::area(s.n, s.dimension), points.len());
+    searched(text, c, s, &points[..cut], &points[cut..], graph, roots)
+}
+
+// The case's input, read into slices of its lengths: the query stands behind the lanes.
+fn given(
+    text: &[u8],
+    s: Shape,
+    points: &mut [f32],
+    graph: &mut [u32],
+    roots: &mut [u32],
+) -> Outcome {
+    let a = cases::read_words(text, s.cursor, roots);
+    let b = cases::read_floats(text, a, points);
+    let c = cases::read_words(text, b, graph);
+    with_points(text, c, s, points, graph, roots)
+}
+
+// The parts of our places that the case asks for; what is too long for them is cut, and so refused.
+fn lent(
+    text: &[u8],
+    s: Shape,
+    points: &mut [f32],
+    graph: &mut [u32],
+    roots: &mut [u32],
+) -> Outcome {
+    let points_long = cases::least(s.points, points.len());
+    let graph_long = cases::least(cases::area(s.n, s.row), graph.len());
+    let roots_long = cases::least(s.roots, roots.len());
+    given(
+        text,
+        s,
+        &mut points[..points_long],
+        &mut graph[..graph_long],
+        &mut roots[..roots_long],
+    )
+}
+
+fn one_case(text: &[u8], c: Cursor) -> Outcome {
+    let s = read_shape(text, c);
+    let mut points = [0.0f32; 1088];
+    let mut graph = [0u32; 512];
+    let mut roots = [0u32; 64];
+    lent(text, s, &mut points, &mut graph, &mut roots)
+}
+
+// A proved loop has to end: it counts its turns down, from more cases than a list has.
+fn replayed(text: &[u8]) -> Tally {
+    let mut turns: u32 = 65536;
+    let mut t = tallies::none();
+    while turns > 0 {
+        let case = replays::next_case(text, t.cursor, t.compared);
+        let cursor = case.cursor;
+        if case.kind != SEARCH {
+            return tallies::ended(t, case.kind, cursor);
+        }
+        let o = one_case(text, cursor);
+        let next = tallies::with_case(t, o);
+        t = next;
+        turns -= 1;
+    }
+    t
+}
+
+fn main() {
+    let mut room = cases::room();
+    let n = io::read_full(0, &mut room);
+    tallies::print(b"searches compared: ", replayed(&room[..n]));
+}

@@ -1,0 +1,2 @@
+-- `Laws`: one turn and the end of each loop over our numbers.
+pub mod Laws

@@ -1,0 +1,124 @@
+// What the replays count and say: how a case came out, and how many did.
+use cases::Cursor;
+use libc::STDOUT_FILENO;
+
+/// Everything is as the list says.
+pub const NOTHING: u32 = 0;
+/// A case of the list was refused.
+pub const REFUSED: u32 = 1;
+/// A length differs.
+pub const LENGTH: u32 = 2;
+/// Node numbers differ.
+pub const NODES: u32 = 3;
+/// Distance bits differ.
+pub const BITS: u32 = 4;
+/// A count differs: takings, a cost, a total of new, a report.
+pub const COUNT: u32 = 5;
+/// A place that no rule writes has changed.
+pub const BEYOND: u32 = 6;
+/// Scratch is not all zero.
+pub const SCRATCH: u32 = 7;
+/// Other words differ: contexts, visited pairs.
+pub const WORDS: u32 = 8;
+
+/// What differs first in a case, and the place behind it.
+pub struct Outcome {
+    pub differs: u32,
+    pub cursor: Cursor,
+}
+
+/// The cases compared, those that differ, and the place in the list.
+pub struct Tally {
+    pub compared: u32,
+    pub differ: u32,
+    pub cursor: Cursor,
+}
+
+/// No case yet.
+pub fn none() -> Tally {
+    Tally {
+        compared: 0,
+        differ: 0,
+        cursor: cases::start(),
+    }
+}
+
+/// The outcome, or what differs where nothing did before.
+pub fn and(o: Outcome, fine: bool, differs: u32) -> Outcome {
+    let cursor = o.cursor;
+    if fine {
+        return o;
+    }
+    if o.differs != NOTHING {
+        return o;
+    }
+    Outcome {
+        differs: differs,
+        cursor: cursor,
+    }
+}
+
+/// The outcome with that of scratch, which is all zero after success.
+pub fn with_scratch(o: Outcome, words: &[u32], floats: &[f32]) -> Outcome {
+    let p = and(o, replays::all_words(words, 0, 0), SCRATCH);
+    and(p, replays::all_zero(floats), SCRATCH)
+}
+
+fn put(label: &[u8], n: u32) {
+    io::write_all(STDOUT_FILENO, label);
+    io::print_decimal(STDOUT_FILENO, n as u64);
+}
+
+fn say(differs: u32) {
+    match differs {
+        1 => io::write_all(STDOUT_FILENO, b" is refused\n"),
+        2 => io::write_all(STDOUT_FILENO, b" differs in a length\n"),
+        3 => io::write_all(STDOUT_FILENO, b" differs in node numbers\n"),
+        4 => io::write_all(STDOUT_FILENO, b" differs in distance bits\n"),
+        5 => io::write_all(STDOUT_FILENO, b" differs in a count\n"),
+        6 => io::write_all(STDOUT_FILENO, b" changes a place that is not its own\n"),
+        7 => io::write_all(STDOUT_FILENO, b" leaves scratch that is not zero\n"),
+        _ => io::write_all(STDOUT_FILENO, b" differs in other words\n"),
+    }
+    ;
+}
+
+/// The tally with one case more. What differs is said at once.
+pub fn with_case(t: Tally, o: Outcome) -> Tally {
+    let compared = std::num::wrapping_add_u32(t.compared, 1);
+    let cursor = o.cursor;
+    let mut differ = t.differ;
+    if o.differs != NOTHING {
+        put(b"case ", compared);
+        say(o.differs);
+        differ = std::num::wrapping_add_u32(differ, 1);
+    }
+    Tally {
+        compared: compared,
+        differ: differ,
+        cursor: cursor,
+    }
+}
+
+/// The tally at the end of the list, whose cursor is `c`; a case of another kind is a fault.
+pub fn ended(t: Tally, kind: u32, c: Cursor) -> Tally {
+    let mut cursor = c;
+    if kind != 0 {
+        cursor = cases::faulted(c, cases::UNEXPECTED);
+    }
+    Tally {
+        compared: t.compared,
+        differ: t.differ,
+        cursor: cursor,
+    }
+}
+
+/// Prints the tally: what was compared, how many differ, and the numbers read with their sum.
+pub fn print(label: &[u8], t: Tally) {
+    put(label, t.compared);
+    put(b"\nthat differ: ", t.differ);
+    put(b"\nnumbers: ", t.cursor.count);
+    put(b", sum: ", t.cursor.sum);
+    put(b", fault: ", t.cursor.fault);
+    io::write_all(STDOUT_FILENO, b"\n");
+}
