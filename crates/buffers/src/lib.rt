@@ -12,23 +12,23 @@ ghost use Rattle.rules.specs.Search.{mark, isSeen};
 use rules::NodeId;
 
 /// Fills the whole slice with zero.
-pub fn zero_words(xs: &mut [u32])
-    ensures { λ _. ⌜ now (xs .exit) ≡ replicate (length (now (xs .entry))) 0 ⌝ }
+pub fn zero_words(words: &mut [u32])
+    ensures { λ _. ⌜ now (words .exit) ≡ replicate (length (now (words .entry))) 0 ⌝ }
 {
     let mut i: usize = 0;
-    while i < xs.len() {
-        xs[i] = 0;
+    while i < words.len() {
+        words[i] = 0;
         i += 1;
     }
 }
 
 /// Fills the whole slice with 0.0.
-pub fn zero_floats(xs: &mut [f32])
-    ensures { λ _. ⌜ now (xs .exit) ≡ replicate (length (now (xs .entry))) zero32 ⌝ }
+pub fn zero_floats(floats: &mut [f32])
+    ensures { λ _. ⌜ now (floats .exit) ≡ replicate (length (now (floats .entry))) zero32 ⌝ }
 {
     let mut i: usize = 0;
-    while i < xs.len() {
-        xs[i] = 0.0;
+    while i < floats.len() {
+        floats[i] = 0.0;
         i += 1;
     }
 }
@@ -45,28 +45,28 @@ pub fn copy_words(m: usize, src: &[u32], dst: &mut [u32])
     }
 }
 
-/// Writes the first `m` of `src` over the first `m` of `dst`.
-pub fn copy_floats(m: usize, src: &[f32], dst: &mut [f32])
-    requires { ⌜ (m ≤ length (now src)) × (m ≤ length (now dst)) ⌝ }
-    ensures { λ _. ⌜ now (dst .exit) ≡ over m (now (src .entry)) (now (dst .entry)) ⌝ }
+/// Writes the first `m` of `from` over the first `m` of `to`.
+pub fn copy_floats(m: usize, from: &[f32], to: &mut [f32])
+    requires { ⌜ (m ≤ length (now from)) × (m ≤ length (now to)) ⌝ }
+    ensures { λ _. ⌜ now (to .exit) ≡ over m (now (from .entry)) (now (to .entry)) ⌝ }
 {
-    let mut i: usize = 0;
-    while i < m {
-        dst[i] = src[i];
-        i += 1;
+    let mut at: usize = 0;
+    while at < m {
+        to[at] = from[at];
+        at += 1;
     }
 }
 
-/// Writes the bits of the first `m` of `src`, none of them a NaN, over the first `m` of `dst`.
-pub fn copy_bits(m: usize, src: &[f32], dst: &mut [u32])
-    requires { ⌜ (m ≤ length (now src)) × (m ≤ length (now dst)) ⌝ }
-    requires { ⌜ ((i : ℕ) → i < m → T (not (isNan (getD (now src) i nan)))) ⌝ }
-    ensures { λ _. ⌜ now (dst .exit) ≡ over m (map (toBits binary32) (now (src .entry))) (now (dst .entry)) ⌝ }
+/// Writes the bits of the first `m` of `floats`, none of them a NaN, over the first `m` of `bits`.
+pub fn copy_bits(m: usize, floats: &[f32], bits: &mut [u32])
+    requires { ⌜ (m ≤ length (now floats)) × (m ≤ length (now bits)) ⌝ }
+    requires { ⌜ ((i : ℕ) → i < m → T (not (isNan (getD (now floats) i nan)))) ⌝ }
+    ensures { λ _. ⌜ now (bits .exit) ≡ over m (map (toBits binary32) (now (floats .entry))) (now (bits .entry)) ⌝ }
 {
-    let mut i: usize = 0;
-    while i < m {
-        dst[i] = f32::to_bits(src[i]);
-        i += 1;
+    let mut j: usize = 0;
+    while j < m {
+        bits[j] = f32::to_bits(floats[j]);
+        j += 1;
     }
 }
 

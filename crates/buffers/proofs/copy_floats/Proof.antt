@@ -10,28 +10,28 @@ use Rattle.buffers.proofs.copy_floats.Statement.{statement}
 use Rattle.buffers.proofs.copy_floats.Tie as tie
 
 abbrev Inv-loop : tie.InvT-loop
-Inv-loop m src dst₀ i₀ dst i = (i ≤ m) × Written src dst₀ dst i
+Inv-loop m from to₀ at₀ to at = (at ≤ m) × Written from to₀ to at
 
 abbrev μ-loop : tie.MeasureT-loop
-μ-loop m src dst₀ i₀ dst i = m - i
+μ-loop m from to₀ at₀ to at = m - at
 
 loop-holds : tie.Need-loop-holds Inv-loop μ-loop
 loop-holds c = (search needs, written-none _ _)
 
-mul-dst : tie.Need-mul-dst Inv-loop μ-loop
-mul-dst c = search needs
+mul-to : tie.Need-mul-to Inv-loop μ-loop
+mul-to c = search needs
 
-shared-slice-read-dst : tie.Need-shared-slice-read-dst Inv-loop μ-loop
-shared-slice-read-dst c = search needs
+shared-slice-read-to : tie.Need-shared-slice-read-to Inv-loop μ-loop
+shared-slice-read-to c = search needs
 
-mul-dst-2 : tie.Need-mul-dst-2 Inv-loop μ-loop
-mul-dst-2 c = search needs
+mul-to-2 : tie.Need-mul-to-2 Inv-loop μ-loop
+mul-to-2 c = search needs
 
-slice-write-dst : tie.Need-slice-write-dst Inv-loop μ-loop
-slice-write-dst c = search needs
+slice-write-to : tie.Need-slice-write-to Inv-loop μ-loop
+slice-write-to c = search needs
 
-add-i : tie.Need-add-i Inv-loop μ-loop
-add-i c = search needs
+add-at : tie.Need-add-at Inv-loop μ-loop
+add-at c = search needs
 
 loop-less : tie.Need-loop-less Inv-loop μ-loop
 loop-less c = search needs
@@ -46,8 +46,8 @@ same-length c = c .before .loop .inv .1 .long
 
 returns : tie.Need-returns Inv-loop μ-loop
 returns c =
-    let e : c .before .loop .i ≡ c .before .before .args .m = omega arith in
-    c .before .loop .inv .1 .list ∙ ap (λ (i : ℕ). over i (c .before .before .args .src .now) (c .before .before .args .dst .now)) e
+    let e : c .before .loop .at ≡ c .before .before .args .m = omega arith in
+    c .before .loop .inv .1 .list ∙ ap (λ (k : ℕ). over k (c .before .before .args .from .now) (c .before .before .args .to .now)) e
 
 pub copy-floats-spec : {M : Type 1} → statement M
 copy-floats-spec =
@@ -56,11 +56,11 @@ copy-floats-spec =
     Inv-loop
     μ-loop
     loop-holds
-    mul-dst
-    shared-slice-read-dst
-    mul-dst-2
-    slice-write-dst
-    add-i
+    mul-to
+    shared-slice-read-to
+    mul-to-2
+    slice-write-to
+    add-at
     loop-less
     loop-again
     same-length

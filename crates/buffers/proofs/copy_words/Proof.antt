@@ -46,7 +46,7 @@ same-length c = c .before .loop .inv .1 .long
 returns : tie.Need-returns Inv-loop μ-loop
 returns c =
     let e : c .before .loop .i ≡ c .before .before .args .m = omega arith in
-    c .before .loop .inv .1 .list ∙ ap (λ (i : ℕ). over i (c .before .before .args .src .now) (c .before .before .args .dst .now)) e
+    c .before .loop .inv .1 .list ∙ ap (λ (k : ℕ). over k (c .before .before .args .src .now) (c .before .before .args .dst .now)) e
 
 pub copy-words-spec : {M : Type 1} → statement M
 copy-words-spec =

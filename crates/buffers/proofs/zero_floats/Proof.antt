@@ -9,19 +9,19 @@ use Rattle.buffers.proofs.zero_floats.Statement.{statement}
 use Rattle.buffers.proofs.zero_floats.Tie as tie
 
 abbrev Inv-loop : tie.InvT-loop
-Inv-loop xs₀ i₀ xs i = Written (replicate (length xs₀) zero32) xs₀ xs i
+Inv-loop floats₀ i₀ floats i = Written (replicate (length floats₀) zero32) floats₀ floats i
 
 abbrev μ-loop : tie.MeasureT-loop
-μ-loop xs₀ i₀ xs i = length xs₀ - i
+μ-loop floats₀ i₀ floats i = length floats₀ - i
 
 loop-holds : tie.Need-loop-holds Inv-loop μ-loop
 loop-holds c = written-none _ _
 
-mul-xs : tie.Need-mul-xs Inv-loop μ-loop
-mul-xs c = let long = c .before .loop .inv .long in search needs
+mul-floats : tie.Need-mul-floats Inv-loop μ-loop
+mul-floats c = let long = c .before .loop .inv .long in search needs
 
-slice-write-xs : tie.Need-slice-write-xs Inv-loop μ-loop
-slice-write-xs c = let long = c .before .loop .inv .long in omega arith
+slice-write-floats : tie.Need-slice-write-floats Inv-loop μ-loop
+slice-write-floats c = let long = c .before .loop .inv .long in omega arith
 
 add-i : tie.Need-add-i Inv-loop μ-loop
 add-i c = search needs
@@ -45,8 +45,8 @@ zero-floats-spec =
     Inv-loop
     μ-loop
     loop-holds
-    mul-xs
-    slice-write-xs
+    mul-floats
+    slice-write-floats
     add-i
     loop-less
     loop-again

@@ -8,19 +8,19 @@ use Rattle.buffers.proofs.zero_words.Statement.{statement}
 use Rattle.buffers.proofs.zero_words.Tie as tie
 
 abbrev Inv-loop : tie.InvT-loop
-Inv-loop xs₀ i₀ xs i = Written (replicate (length xs₀) 0) xs₀ xs i
+Inv-loop words₀ i₀ words i = Written (replicate (length words₀) 0) words₀ words i
 
 abbrev μ-loop : tie.MeasureT-loop
-μ-loop xs₀ i₀ xs i = length xs₀ - i
+μ-loop words₀ i₀ words i = length words₀ - i
 
 loop-holds : tie.Need-loop-holds Inv-loop μ-loop
 loop-holds c = written-none _ _
 
-mul-xs : tie.Need-mul-xs Inv-loop μ-loop
-mul-xs c = let long = c .before .loop .inv .long in search needs
+mul-words : tie.Need-mul-words Inv-loop μ-loop
+mul-words c = let long = c .before .loop .inv .long in search needs
 
-slice-write-xs : tie.Need-slice-write-xs Inv-loop μ-loop
-slice-write-xs c = let long = c .before .loop .inv .long in omega arith
+slice-write-words : tie.Need-slice-write-words Inv-loop μ-loop
+slice-write-words c = let long = c .before .loop .inv .long in omega arith
 
 add-i : tie.Need-add-i Inv-loop μ-loop
 add-i c = search needs
@@ -44,8 +44,8 @@ zero-words-spec =
     Inv-loop
     μ-loop
     loop-holds
-    mul-xs
-    slice-write-xs
+    mul-words
+    slice-write-words
     add-i
     loop-less
     loop-again
