@@ -97,6 +97,12 @@ unfolding Whenever worksOut
 pushes apart n v es (Fit x) h = (length-insert (neighbor v x) es, below-insert n (neighbor v x) es h)
 pushes apart n v es Unfit h = tt
 
+pub pushes-both : (apart : ℕ → Distance) (n v : ℕ) (es : List Neighbor) (d : Distance) → v < n → AllBelow n (nodesOf es)
+    → Whenever (λ (fs : List Neighbor). AllBelow n (nodesOf fs) × (length fs ≡ suc (length es))) (worksOut apart v es d)
+unfolding Whenever worksOut
+pushes-both apart n v es (Fit x) h b = (below-insert n (neighbor v x) es h b, length-insert (neighbor v x) es)
+pushes-both apart n v es Unfit h b = tt
+
 pub pushes-below : (apart : ℕ → Distance) (n v : ℕ) (es : List Neighbor) (d : Distance) → v < n → AllBelow n (nodesOf es) → Whenever (λ (fs : List Neighbor). AllBelow n (nodesOf fs)) (worksOut apart v es d)
 unfolding Whenever worksOut
 pushes-below apart n v es (Fit x) h b = below-insert n (neighbor v x) es h b
@@ -135,7 +141,7 @@ pub record Queued (n : ℕ) (q₀ q : List ℕ) (more : ℕ) : Type 0 where
   pub most : length q ≤ length q₀ + more
   pub below : AllBelow n q
 
-joined-long : (e : Neighbor) (t : Taken) → length (joins e t .queue) ≡ suc (length (t .queue))
+pub joined-long : (e : Neighbor) (t : Taken) → length (joins e t .queue) ≡ suc (length (t .queue))
 unfolding joins
 joined-long e t = length-append (t .queue) (nodeOf e ∷ []) ∙ omega arith
 

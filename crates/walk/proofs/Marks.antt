@@ -16,7 +16,7 @@ use Rattle.rules.specs.Lists.{neighbor, nodesOf}
 use Rattle.rules.specs.Search.{Going, on, unfitAt, andThen, worksOut, mark, isSeen, rootsFound}
 use Rattle.rules.proofs.Loops.{through-append}
 use Rattle.expand.specs.Queue.{ones, AllBelow}
-use Rattle.expand.proofs.Sound.{ones-most, ones-mark, mark-long, below-insert, Whenever, whenever-then, pushes-below}
+use Rattle.expand.proofs.Sound.{ones-most, ones-mark, mark-long, below-insert, Whenever, whenever-then, pushes-below, pushes-both}
 use Rattle.walk.specs.Walks.{Roots}
 
 seen-mark : (v w : ℕ) (xs : List ℕ) → v < length xs → isSeen v (mark w xs) ≡ (eqb v w || isSeen v xs)
@@ -86,6 +86,12 @@ module _ (n : ℕ) (roots : List ℕ) (fine : Roots n roots) where
       let zeros : length (replicate {A = ℕ} n 0) ≡ n = length-replicate n 0 in
       omega arith
 
+weaken : (g : Going (List Neighbor)) (a b c n : ℕ) → b ≡ suc c → Whenever (λ (gs : List Neighbor). AllBelow n (nodesOf gs) × (length gs ≡ a + b)) g
+    → Whenever (λ (gs : List Neighbor). AllBelow n (nodesOf gs) × (length gs ≡ suc a + c)) g
+unfolding Whenever
+weaken (on gs) a b c n e w = (w .0, let f = w .1 in omega arith)
+weaken (unfitAt v) a b c n e w = tt
+
 -- the roots found are below n
 pub found-below : (apart : ℕ → Distance) (n : ℕ) (vs : List ℕ) (es : List Neighbor) → AllBelow n vs → AllBelow n (nodesOf es) → Whenever (λ (fs : List Neighbor). AllBelow n (nodesOf fs)) (rootsFound apart vs es)
 unfolding rootsFound AllBelow Whenever
@@ -94,6 +100,21 @@ found-below apart n (v ∷ vs) es b c =
     whenever-then (λ (fs : List Neighbor). AllBelow n (nodesOf fs)) (λ (fs : List Neighbor). AllBelow n (nodesOf fs)) (worksOut apart v es (apart v)) (rootsFound apart vs)
     (pushes-below apart n v es (apart v) (b .0) c)
     (λ (fs : List Neighbor) h. found-below apart n vs fs (b .1) h)
+
+-- and as many as there are roots
+pub found-long : (apart : ℕ → Distance) (n : ℕ) (vs : List ℕ) (es : List Neighbor) → AllBelow n vs → AllBelow n (nodesOf es)
+    → Whenever (λ (fs : List Neighbor). AllBelow n (nodesOf fs) × (length fs ≡ length vs + length es)) (rootsFound apart vs es)
+unfolding rootsFound AllBelow Whenever
+found-long apart n [] es b c = (c, omega arith)
+found-long apart n (v ∷ vs) es b c =
+    whenever-then (λ (fs : List Neighbor). AllBelow n (nodesOf fs) × (length fs ≡ suc (length es))) (λ (fs : List Neighbor). AllBelow n (nodesOf fs) × (length fs ≡ suc (length vs) + length es))
+    (worksOut apart v es (apart v)) (rootsFound apart vs) (pushes-both apart n v es (apart v) (b .0) c)
+    (λ (fs : List Neighbor) h. more fs h (found-long apart n vs fs (b .1) (h .0)))
+  where
+    more : (fs : List Neighbor) → AllBelow n (nodesOf fs) × (length fs ≡ suc (length es))
+        → Whenever (λ (gs : List Neighbor). AllBelow n (nodesOf gs) × (length gs ≡ length vs + length fs)) (rootsFound apart vs fs)
+        → Whenever (λ (gs : List Neighbor). AllBelow n (nodesOf gs) × (length gs ≡ suc (length vs) + length es)) (rootsFound apart vs fs)
+    more fs h w = weaken (rootsFound apart vs fs) (length vs) (length fs) (length es) n (h .1) w
 
 pub all-below : (n : ℕ) (vs : List ℕ) → ((i : ℕ) → i < length vs → getD vs i 0 < n) → AllBelow n vs
 unfolding AllBelow

@@ -65,11 +65,11 @@ marked n roots us ys zs h p q =
 
 -- ---- the start
 
-nothing-below : (n : ℕ) → AllBelow n (nodesOf [])
+pub nothing-below : (n : ℕ) → AllBelow n (nodesOf [])
 unfolding AllBelow nodesOf
 nothing-below n = tt
 
-cut-below : (n k : ℕ) (es : List Neighbor) → AllBelow n (nodesOf es) → AllBelow n (nodesOf (take k es))
+pub cut-below : (n k : ℕ) (es : List Neighbor) → AllBelow n (nodesOf es) → AllBelow n (nodesOf (take k es))
 unfolding AllBelow nodesOf
 cut-below n zero es b = tt
 cut-below n (suc k) [] b = tt
