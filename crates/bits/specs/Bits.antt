@@ -1,8 +1,8 @@
 -- A list of words with one bit set, or cleared: only the word that holds it changes. Assumes nothing.
 use mathlib.Core.List.{List}
-use Prim.Native.Nat.{ℕ, _/_, _%_, _^_}
+use Prim.Native.Nat.{ℕ, _/_, _%_, _^_, _<_}
 use lib.Bits.{bitOr, bitXor}
-use lib.ListN.{getD, set}
+use lib.ListN.{length, getD, set}
 
 -- the word with its bit k set
 unfoldable pub withBit : ℕ → ℕ → ℕ
@@ -17,3 +17,7 @@ withoutBit k w = bitXor (withBit k w) (2 ^ k)
 
 unfoldable pub clearBit : ℕ → List ℕ → List ℕ
 clearBit p us = set us (p / 32) (withoutBit (p % 32) (getD us (p / 32) 0))
+
+-- each word is one of u32
+abbrev pub Words : List ℕ → Type 0
+Words us = (q : ℕ) → q < length us → getD us q 0 < 2 ^ 32
