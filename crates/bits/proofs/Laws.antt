@@ -1,16 +1,18 @@
 -- The laws of one bit set or cleared. Assumes nothing.
 use mathlib.Core.Path.{_≡_, refl, sym, ap, ap₂, _∙_}
-use mathlib.Core.Bool.{Bool, true, false, not, _&&_, _||_}
+use mathlib.Core.Bool.{Bool, true, false, true≢false, false≢true, not, _&&_, _||_}
 use mathlib.Core.List.{List}
-use Prim.Native.Nat.{ℕ, zero, suc, _+_, _*_, _/_, _%_, _^_, _≤_, _<_, max}
+use Prim.Native.Nat.{ℕ, zero, suc, _+_, _*_, _/_, _%_, _^_, _<_}
 use native.Mathlib.Nat.{mod-lt, one-mul, div-one, div-eq-of-lt, div-add-mod', zero-lt-suc, le-refl}
+use native.Mathlib.Numerals.{add-one}
 use native.Mathlib.Omega.{arith}
 use borrow.Author.Tests.{eqb-true, eqb-false, eq-eqb, ne-eqb}
-use lib.Bits.{bitOr, bitXor, differ, or-shr, or-mod, xor-shr, xor-mod, or-lt, xor-lt, shifted-half, shifted-even}
+use lib.Arith.{lt-one, digits-div, digits-mod}
+use lib.Bits.{bitOr, bitXor, or-shr, or-mod, xor-shr, xor-mod, or-lt, xor-lt, shifted-half, shifted-even}
 use lib.Dec.{eqb, eqb·zero-suc, eqb·suc-zero, eqb·suc-suc}
 use lib.ListN.{length, getD, set, length-set}
-use lib.Pow.{pow-pos, pow-lt, shl-exact, shr-shr}
-use lib.Seq.{getD-set-same, getD-set-other}
+use lib.Pow.{pow-lt, shl-exact, shr-lt, shr-shr}
+use lib.Seq.{getD-set-same, getD-set-other, ext-getD}
 use Rattle.rules.specs.DescentPlaces.{bitAt}
 use Rattle.bits.specs.Bits.{withBit, setBit, withoutBit, clearBit, Words}
 
@@ -127,3 +129,47 @@ length-setBit p us = length-set us (p / 32) (withBit (p % 32) (getD us (p / 32) 
 pub length-clearBit : (p : ℕ) (us : List ℕ) → length (clearBit p us) ≡ length us
 unfolding clearBit
 length-clearBit p us = length-set us (p / 32) (withoutBit (p % 32) (getD us (p / 32) 0))
+
+words-changed : (us : List ℕ) (q w : ℕ) → q < length us → Words us → w < 2 ^ 32 → Words (set us q w)
+words-changed us q w h all l j = go (eqb j q) refl
+  where
+    go : (b : Bool) → eqb j q ≡ b → getD (set us q w) j 0 < 2 ^ 32
+    go true e = rw (eqb-true j q e, getD-set-same us q w 0 h) l
+    go false e = rw (getD-set-other us q j w 0 (eqb-false j q e)) (all j)
+
+pub words-setBit : (p : ℕ) (us : List ℕ) → p / 32 < length us → Words us → Words (setBit p us)
+unfolding setBit
+words-setBit p us h all =
+    words-changed us (p / 32) (withBit (p % 32) (getD us (p / 32) 0)) h all (with-lt (p % 32) (getD us (p / 32) 0) (mod-lt p (zero-lt-suc 31)) (all (p / 32)))
+
+pub words-clearBit : (p : ℕ) (us : List ℕ) → p / 32 < length us → Words us → Words (clearBit p us)
+unfolding clearBit
+words-clearBit p us h all =
+    words-changed us (p / 32) (withoutBit (p % 32) (getD us (p / 32) 0)) h all (without-lt (p % 32) (getD us (p / 32) 0) (mod-lt p (zero-lt-suc 31)) (all (p / 32)))
+
+-- ---- words are told by their bits
+
+-- the lowest digits are the same where the lowest bits are
+lowest : (v w : ℕ) → bitOf v 0 ≡ bitOf w 0 → v % 2 ≡ w % 2
+lowest v w e =
+    digits (λ x y. eqb x 1 ≡ eqb y 1 → x ≡ y) (λ r. refl) (λ r. absurd (false≢true r)) (λ r. absurd (true≢false r)) (λ r. refl) (v % 2) (w % 2) (mod-lt v two-pos) (mod-lt w two-pos)
+    (ap (λ (x : ℕ). eqb (x % 2) 1) (sym (div-one v)) ∙ e ∙ ap (λ (x : ℕ). eqb (x % 2) 1) (div-one w))
+
+word-told : (n v w : ℕ) → v < 2 ^ n → w < 2 ^ n → ((k : ℕ) → k < n → bitOf v k ≡ bitOf w k) → v ≡ w
+word-told zero v w h l same = lt-one h ∙ sym (lt-one l)
+word-told (suc n) v w h l same =
+    sym (div-add-mod' v 2)
+    ∙ ap₂ (λ (x y : ℕ). x * 2 + y)
+    (word-told n (v / 2) (w / 2) (shr-lt n 1 (rw (add-one n) h)) (shr-lt n 1 (rw (add-one n) l)) (λ k b. sym (bit-half v k) ∙ same (suc k) (omega arith) ∙ bit-half w k))
+    (lowest v w (same 0 (omega arith)))
+    ∙ div-add-mod' w 2
+
+pub bitAt-place : (us : List ℕ) (q k : ℕ) → k < 32 → bitAt us (q * 32 + k) ≡ bitOf (getD us q 0) k
+unfolding bitAt
+bitAt-place us q k h = ap₂ (λ (a b : ℕ). bitOf (getD us a 0) b) (digits-div q h) (digits-mod q h)
+
+pub words-told : (us vs : List ℕ) → length us ≡ length vs → Words us → Words vs → ((p : ℕ) → p / 32 < length us → bitAt us p ≡ bitAt vs p) → us ≡ vs
+words-told us vs e hu hv same =
+    ext-getD 0 us vs e
+    (λ q h. word-told 32 (getD us q 0) (getD vs q 0) (hu q) (hv q)
+    (λ k b. sym (bitAt-place us q k b) ∙ same (q * 32 + k) (rw (digits-div q {m = 32} {r = k} b) h) ∙ bitAt-place vs q k b))

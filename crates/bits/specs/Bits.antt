@@ -2,7 +2,7 @@
 use mathlib.Core.List.{List}
 use Prim.Native.Nat.{ℕ, _/_, _%_, _^_, _<_}
 use lib.Bits.{bitOr, bitXor}
-use lib.ListN.{length, getD, set}
+use lib.ListN.{getD, set}
 
 -- the word with its bit k set
 unfoldable pub withBit : ℕ → ℕ → ℕ
@@ -18,6 +18,6 @@ withoutBit k w = bitXor (withBit k w) (2 ^ k)
 unfoldable pub clearBit : ℕ → List ℕ → List ℕ
 clearBit p us = set us (p / 32) (withoutBit (p % 32) (getD us (p / 32) 0))
 
--- each word is one of u32
+-- each word is one of u32; behind the last, 0 is read
 abbrev pub Words : List ℕ → Type 0
-Words us = (q : ℕ) → q < length us → getD us q 0 < 2 ^ 32
+Words us = (q : ℕ) → getD us q 0 < 2 ^ 32
