@@ -1,0 +1,2 @@
+-- `Bits`: a bit set and cleared.
+pub mod Bits
