@@ -1,0 +1,2 @@
+-- `Laws`: what becomes of an offer at a row. `Slots`: rows put back among the slots, and the turns of the links.
+pub mod Laws
