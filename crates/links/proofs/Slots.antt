@@ -1,0 +1,201 @@
+-- Laws of the slots over plain lists: a row put back among them, one link, and the turns of the links. Assumes nothing.
+use mathlib.Core.Path.{_≡_, refl, sym, ap, _∙_, subst}
+use mathlib.Core.Bool.{Bool, true, false, cond}
+use mathlib.Core.List.{List, _++_}
+use Prim.Native.Nat.{ℕ, zero, suc, _+_, _-_, _*_, _≤_, _<_, zero-le}
+use native.Mathlib.Nat.{suc-mul}
+use native.Mathlib.Numerals.{add-one}
+use native.Mathlib.Omega.{arith}
+use lib.ListN.{length, take, drop, getD, length-drop}
+use lib.Seq.{length-take-le, drop-drop}
+use lib.Ieee.{Float}
+use borrow.Rule.Slice.PartMut.{midOf, putMid}
+use Rattle.rules.specs.declared.Neighbor.{Neighbor}
+use Rattle.rules.specs.Loops.{turns, has, part, putPart}
+use Rattle.rules.specs.Lists.{neighbor, nodeOf, nodesOf, entries}
+use Rattle.rules.specs.Rows.{isEmpty, emptySlot, live}
+use Rattle.rules.specs.Build.{Between, offered, linkBack, link, linkedSlots}
+use Rattle.rules.specs.Calls.{BuildSizes}
+use Rattle.rules.proofs.Loops.{turns-turn}
+use Rattle.lists.proofs.Slices.{length-entries, entries-take, take-entries, getD-entries, nodesOf-entries}
+use Rattle.lists.proofs.Plain.{all-at}
+use Rattle.rows.specs.Live.{LiveIn}
+use Rattle.rows.proofs.Laws.{row-in, entries-append, entries-from, part-entries}
+use Rattle.links.specs.Links.{Sound, Room, Linked, linksOf, linksAll}
+use Rattle.links.proofs.Laws.{sound-offered, sound-part, sound-put}
+
+-- ---- a row is lent, k places from q * w on, and comes back: the entries are those with part q replaced
+
+pub put-entries : (w q m : ℕ) (ns ys : List ℕ) (ds zs : List Float) → q * w + w ≤ m → m ≤ length ns → m ≤ length ds → length ys ≡ w → length zs ≡ w
+    → entries m (putMid (q * w) w ns ys) (putMid (q * w) w ds zs) ≡ putPart w q (entries w ys zs) (entries m ns ds)
+unfolding putPart
+put-entries w q m ns ys ds zs h k g y z =
+    let a = q * w in
+    let r = m - (a + w) in
+    let e : m ≡ a + (w + r) = omega arith in
+    let e' : m ≡ (a + w) + r = omega arith in
+    let rest : entries r (drop w (drop a ns)) (drop w (drop a ds)) ≡ drop (a + w) (entries m ns ds) =
+    ap (λ (l : List ℕ). entries r l (drop w (drop a ds))) (drop-drop w a ns)
+    ∙ ap (entries r (drop (a + w) ns)) (drop-drop w a ds)
+    ∙ sym (ap (λ (x : ℕ). drop (a + w) (entries x ns ds)) e' ∙ entries-from (a + w) r ns ds (omega arith) (omega arith)) in
+    let front : entries a (take a ns) (take a ds) ≡ take a (entries m ns ds) = entries-take a ns ds ∙ sym (take-entries a m ns ds (omega arith)) in
+    ap (λ (x : ℕ). entries x (putMid a w ns ys) (putMid a w ds zs)) e
+    ∙ entries-append a (w + r) (take a ns) (ys ++ drop w (drop a ns)) (take a ds) (zs ++ drop w (drop a ds)) (length-take-le a ns (omega arith)) (length-take-le a ds (omega arith))
+    ∙ ap (λ (l : List Neighbor). l ++ entries (w + r) (ys ++ drop w (drop a ns)) (zs ++ drop w (drop a ds))) front
+    ∙ ap (λ (l : List Neighbor). take a (entries m ns ds) ++ l) (entries-append w r ys (drop w (drop a ns)) zs (drop w (drop a ds)) y z)
+    ∙ ap (λ (l : List Neighbor). take a (entries m ns ds) ++ (entries w ys zs ++ l)) rest
+
+-- ---- the row of the entry that was read
+
+module _ (n w : ℕ) (ns : List ℕ) (ds : List Float) (d : Between) (t : Float) (v : ℕ) (e : Neighbor) (h : n * w ≤ length ns) (g : n * w ≤ length ds) (q : nodeOf e < n) (S : Sound n (entries (n * w) ns ds)) where
+  row-is : part w (nodeOf e) (entries (n * w) ns ds) ≡ entries w (midOf (nodeOf e * w) w ns) (midOf (nodeOf e * w) w ds)
+  unfolding part
+  row-is = part-entries w (nodeOf e) (n * w) ns ds (row-in n w (nodeOf e) q) h g
+
+  row-sound : Sound n (entries w (midOf (nodeOf e * w) w ns) (midOf (nodeOf e * w) w ds))
+  row-sound = rw (← row-is) (sound-part n w (nodeOf e) (entries (n * w) ns ds) S)
+
+  row-long : length (midOf (nodeOf e * w) w ns) ≡ w
+  row-long = let r = row-in n w (nodeOf e) q in length-take-le w (drop (nodeOf e * w) ns) (rw (length-drop (nodeOf e * w) ns) (omega arith))
+
+  row-dists : length (midOf (nodeOf e * w) w ds) ≡ w
+  row-dists = let r = row-in n w (nodeOf e) q in length-take-le w (drop (nodeOf e * w) ds) (rw (length-drop (nodeOf e * w) ds) (omega arith))
+
+  pub lent-sound : (k : ℕ) → k ≡ w → Sound n (entries w (midOf (nodeOf e * w) k ns) (midOf (nodeOf e * w) k ds))
+  lent-sound k u = rw u row-sound
+
+  live-nodes : {r : ℕ} → LiveIn w (midOf (nodeOf e * w) w ds) r → nodesOf (live (part w (nodeOf e) (entries (n * w) ns ds))) ≡ take r (midOf (nodeOf e * w) w ns)
+  live-nodes {r} made =
+      let in-row = made .within in
+      let i = row-long in
+      let j = row-dists in
+      ap (λ (l : List Neighbor). nodesOf (live l)) row-is
+      ∙ ap nodesOf (made .list (midOf (nodeOf e * w) w ns) (omega arith))
+      ∙ nodesOf-entries r (midOf (nodeOf e * w) w ns) (midOf (nodeOf e * w) w ds) (omega arith)
+
+  module _ (k : ℕ) (u : k ≡ w) {r : ℕ} (made : LiveIn w (midOf (nodeOf e * w) k ds) r) where
+    known : has v (nodesOf (live (part w (nodeOf e) (entries (n * w) ns ds)))) ≡ has v (take r (midOf (nodeOf e * w) k ns))
+    known = ap (has v) (live-nodes {r = r} (subst (λ (x : ℕ). LiveIn w (midOf (nodeOf e * w) x ds) r) u made)) ∙ ap (λ (x : ℕ). has v (take r (midOf (nodeOf e * w) x ns))) (sym u)
+
+    -- "If v is in w's live part, go on."
+    pub linked-known : has v (take r (midOf (nodeOf e * w) k ns)) ≡ true → Linked n w (linkBack d t w v e (entries (n * w) ns ds)) ns ds
+    unfolding linkBack
+    linked-known b = record { list = rw (known ∙ b); sound = S }
+
+    -- "Otherwise offer (v, that slot's distance) to row w."
+    pub linked-offered : has v (take r (midOf (nodeOf e * w) k ns)) ≡ false → v < n → (ys : List ℕ) (zs : List Float)
+        → length ys ≡ length (midOf (nodeOf e * w) k ns) → length zs ≡ length (midOf (nodeOf e * w) k ds)
+        → entries w ys zs ≡ offered d t w (neighbor v (e .distance)) (entries w (midOf (nodeOf e * w) k ns) (midOf (nodeOf e * w) k ds))
+        → Linked n w (linkBack d t w v e (entries (n * w) ns ds)) (putMid (nodeOf e * w) k ns ys) (putMid (nodeOf e * w) k ds zs)
+    unfolding linkBack
+    linked-offered b l ys zs y z o =
+        let at = nodeOf e in
+        let slots = entries (n * w) ns ds in
+        let offer = neighbor v (e .distance) in
+        let y' : length ys ≡ w = y ∙ ap (λ (x : ℕ). length (midOf (at * w) x ns)) u ∙ row-long in
+        let z' : length zs ≡ w = z ∙ ap (λ (x : ℕ). length (midOf (at * w) x ds)) u ∙ row-dists in
+        let o' : entries w ys zs ≡ offered d t w offer (part w at slots) =
+        o ∙ ap (λ (x : ℕ). offered d t w offer (entries w (midOf (at * w) x ns) (midOf (at * w) x ds))) u ∙ ap (offered d t w offer) (sym row-is) in
+        let back : entries (n * w) (putMid (at * w) k ns ys) (putMid (at * w) k ds zs) ≡ putPart w at (offered d t w offer (part w at slots)) slots =
+        ap (λ (x : ℕ). entries (n * w) (putMid (at * w) x ns ys) (putMid (at * w) x ds zs)) u
+        ∙ put-entries w at (n * w) ns ys ds zs (row-in n w at q) h g y' z'
+        ∙ ap (λ (l : List Neighbor). putPart w at l slots) o' in
+        let long : length (part w at slots) ≡ w =
+        ap length row-is ∙ length-entries w (midOf (at * w) w ns) (midOf (at * w) w ds) (rw row-long (omega arith)) (rw row-dists (omega arith)) in
+        record {
+          list = rw (known ∙ b) back;
+          sound = rw back (sound-put n w at (offered d t w offer (part w at slots)) slots (sound-offered n d t w offer (part w at slots) long l (sound-part n w at slots S)) S);
+        }
+
+-- ---- one link
+
+least-one : (w v : ℕ) → 1 ≤ w → v ≤ v * w
+least-one w zero h = zero-le
+least-one w (suc v) h = let i = least-one w v h in let m = suc-mul v w in omega arith
+
+-- "read slot i + v": it is one of the n times w
+pub slot-in : (n w v i : ℕ) → v < n → i < w → i + v < n * w
+slot-in n w v i l k = let r = row-in n w v l in let m = least-one w v (omega arith) in omega arith
+
+module _ (n w : ℕ) (ns : List ℕ) (ds : List Float) (d : Between) (t : Float) (v i : ℕ) (h : n * w ≤ length ns) (g : n * w ≤ length ds) (l : i + v < n * w) (S : Sound n (entries (n * w) ns ds)) (z : Float) where
+  read-is : getD (entries (n * w) ns ds) (i + v) (emptySlot 0) ≡ neighbor (getD ns (i + v) 0) (getD ds (i + v) z)
+  read-is = getD-entries (n * w) (i + v) ns ds 0 z (emptySlot 0) l h g
+
+  pub slot-below : isEmpty (neighbor (getD ns (i + v) 0) (getD ds (i + v) z)) ≡ false → getD ns (i + v) 0 < n
+  slot-below b =
+      let long = length-entries (n * w) ns ds h g in
+      let here = all-at (λ (e : Neighbor). isEmpty e ≡ false → nodeOf e < n) (entries (n * w) ns ds) (i + v) (emptySlot 0) S (omega arith) in
+      let node = ap nodeOf read-is in
+      let below = here (ap isEmpty read-is ∙ b) in
+      omega arith
+
+  pub link-empty : isEmpty (neighbor (getD ns (i + v) 0) (getD ds (i + v) z)) ≡ true → Linked n w (link d t w v i (entries (n * w) ns ds)) ns ds
+  unfolding link
+  link-empty b = record { list = rw (read-is, b); sound = S }
+
+  pub link-on : isEmpty (neighbor (getD ns (i + v) 0) (getD ds (i + v) z)) ≡ false → {ns' : List ℕ} {ds' : List Float}
+      → Linked n w (linkBack d t w v (neighbor (getD ns (i + v) 0) (getD ds (i + v) z)) (entries (n * w) ns ds)) ns' ds'
+      → Linked n w (link d t w v i (entries (n * w) ns ds)) ns' ds'
+  unfolding link
+  link-on b made = record { list = made .list ∙ rw (read-is, b); sound = made .sound }
+
+-- ---- turns over the slots
+
+pub record Turning (n w bound : ℕ) (f : ℕ → List Neighbor → List Neighbor) (ns₀ : List ℕ) (ds₀ : List Float) (ps₀ : List ℕ) (qs₀ : List Float) (ns : List ℕ) (ds : List Float) (ps : List ℕ) (qs : List Float) (i : ℕ) : Type 0 where
+  pub within : i ≤ bound
+  pub linked : Linked n w (turns f i (entries (n * w) ns₀ ds₀)) ns ds
+  pub nodes : length ns ≡ length ns₀
+  pub dists : length ds ≡ length ds₀
+  pub pool-nodes : length ps ≡ length ps₀
+  pub pool-dists : length qs ≡ length qs₀
+
+pub turning-none : {n w bound : ℕ} {f : ℕ → List Neighbor → List Neighbor} {ns : List ℕ} {ds : List Float} {ps : List ℕ} {qs : List Float} → Sound n (entries (n * w) ns ds)
+    → Turning n w bound f ns ds ps qs ns ds ps qs 0
+unfolding turns
+turning-none S = record { within = zero-le; linked = record { list = refl; sound = S }; nodes = refl; dists = refl; pool-nodes = refl; pool-dists = refl }
+
+module _ {n w bound : ℕ} {f : ℕ → List Neighbor → List Neighbor} {ns₀ : List ℕ} {ds₀ : List Float} {ps₀ : List ℕ} {qs₀ : List Float} {ns : List ℕ} {ds : List Float} {ps : List ℕ} {qs : List Float} {i : ℕ} (inv : Turning n w bound f ns₀ ds₀ ps₀ qs₀ ns ds ps qs i) where
+  pub turning-room : Room n w ns₀ ds₀ ps₀ qs₀ → Room n w ns ds ps qs
+  turning-room room =
+      record {
+        nodes = rw (inv .nodes) (room .nodes);
+        dists = rw (inv .dists) (room .dists);
+        pool-nodes = rw (inv .pool-nodes) (room .pool-nodes);
+        pool-dists = rw (inv .pool-dists) (room .pool-dists);
+        most = room .most;
+        wide = room .wide;
+        some = room .some;
+      }
+
+  pub turning-turn : i < bound → {ns' : List ℕ} {ds' : List Float} {ps' : List ℕ} {qs' : List Float} → Linked n w (f i (entries (n * w) ns ds)) ns' ds'
+      → length ns' ≡ length ns → length ds' ≡ length ds → length ps' ≡ length ps → length qs' ≡ length qs
+      → Turning n w bound f ns₀ ds₀ ps₀ qs₀ ns' ds' ps' qs' (i + 1)
+  turning-turn l made a b c e =
+      record {
+        within = omega arith;
+        linked = record { list = made .list ∙ ap (f i) (inv .linked .list) ∙ turns-turn f i (entries (n * w) ns₀ ds₀); sound = made .sound };
+        nodes = a ∙ inv .nodes;
+        dists = b ∙ inv .dists;
+        pool-nodes = c ∙ inv .pool-nodes;
+        pool-dists = e ∙ inv .pool-dists;
+      }
+
+  turning-all : bound ≤ i → Linked n w (turns f bound (entries (n * w) ns₀ ds₀)) ns ds
+  turning-all l =
+      let u = inv .within in
+      let same : i ≡ bound = omega arith in
+      record { list = inv .linked .list ∙ ap (λ (x : ℕ). turns f x (entries (n * w) ns₀ ds₀)) same; sound = inv .linked .sound }
+
+module _ (d : Between) (t : Float) {n w : ℕ} {ns₀ : List ℕ} {ds₀ : List Float} {ps₀ : List ℕ} {qs₀ : List Float} {ns : List ℕ} {ds : List Float} {ps : List ℕ} {qs : List Float} {i : ℕ} where
+  pub links-of : (v : ℕ) → Turning n w w (link d t w v) ns₀ ds₀ ps₀ qs₀ ns ds ps qs i → w ≤ i → Linked n w (linksOf d t w v (entries (n * w) ns₀ ds₀)) ns ds
+  unfolding linksOf
+  links-of v inv l = turning-all inv l
+
+  pub links-all : Turning n w n (linksOf d t w) ns₀ ds₀ ps₀ qs₀ ns ds ps qs i → n ≤ i → Linked n w (linksAll d n t w (entries (n * w) ns₀ ds₀)) ns ds
+  unfolding linksAll
+  links-all inv l = turning-all inv l
+
+-- what the links give is what the rulebook says of step 5
+pub linked-slots : (d : Between) (n : ℕ) (p : BuildSizes) (slots : List Neighbor) → linksAll d n (p .threshold) (p .index-size) slots ≡ linkedSlots d n p slots
+unfolding linksAll linksOf linkedSlots
+linked-slots d n p slots = refl

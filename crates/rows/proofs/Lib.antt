@@ -1,0 +1,2 @@
+-- `Laws`: rows in two slices, over plain lists.
+pub mod Laws
