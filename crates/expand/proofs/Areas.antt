@@ -13,8 +13,9 @@ use Rattle.rules.specs.Lists.{entries, insert, nodeOf}
 use Rattle.rules.specs.Search.{Taken, joins}
 use Rattle.lists.specs.Lists.{Pushed}
 use Rattle.lists.proofs.Slices.{take-entries, length-entries}
-use Rattle.expand.specs.Areas.{area, bestAt, foundAt, seenIn, queueIn, bestIn, foundIn, Room, QueueKept, FoundKept}
-use Rattle.expand.proofs.Places.{length-area, put-length, put-area, put-front, put-low, put-high, set-area, set-low, set-high}
+use Rattle.buffers.specs.Area.{area}
+use Rattle.expand.specs.Areas.{bestAt, foundAt, seenIn, queueIn, bestIn, foundIn, Room, QueueKept, FoundKept}
+use Rattle.buffers.proofs.Places.{length-area, put-length, put-area, put-front, put-low, put-high, set-area, set-low, set-high}
 
 -- ---- an entry is pushed among those found
 

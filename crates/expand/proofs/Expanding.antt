@@ -18,10 +18,11 @@ use Rattle.rules.specs.Search.{Walk, Going, on, unfitAt, Found, Taken, andThen,
 use Rattle.lists.proofs.Slices.{length-entries}
 use Rattle.expand.specs.declared.Counted.{Counted}
 use Rattle.expand.specs.declared.Counted.the-variants as counted
-use Rattle.expand.specs.Areas.{area, bestAt, foundAt, seenIn, queueIn, bestIn, foundIn, Room, QueueKept, FoundKept}
+use Rattle.buffers.specs.Area.{area}
+use Rattle.expand.specs.Areas.{bestAt, foundAt, seenIn, queueIn, bestIn, foundIn, Room, QueueKept, FoundKept}
 use Rattle.expand.specs.Steps.{found, foundAfter, Visited, taken, TakenIn}
 use Rattle.expand.specs.Queue.{ones, AllBelow, QueueSound, walkIn, walkAfter, soundAfter, Rows, Expanded}
-use Rattle.expand.proofs.Places.{length-area}
+use Rattle.buffers.proofs.Places.{length-area}
 use Rattle.expand.proofs.Sound.{ones-most, below-at, below-live, Whenever, Grown, grown-visits, Queued, queued-these}
 
 -- ---- the node that is taken, and its row

@@ -1,5 +1,4 @@
--- `Places`: areas of a slice. `Areas`: what each write does to the areas of scratch. `Steps`: what each step leaves. `Sound`: n takings are enough. `Expanding`: one node expanded.
-pub mod Places
+-- `Areas`: what each write does to the areas of scratch. `Steps`: what each step leaves. `Sound`: n takings are enough. `Expanding`: one node expanded.
 pub mod Areas
 pub mod Steps
 pub mod Sound

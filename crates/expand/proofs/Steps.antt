@@ -23,9 +23,10 @@ use Rattle.lists.specs.Lists.{Pushed}
 use Rattle.lists.proofs.Slices.{take-entries, length-entries, getD-entries, drop-entries}
 use Rattle.expand.specs.declared.Counted.{Counted}
 use Rattle.expand.specs.declared.Counted.the-variants as counted
-use Rattle.expand.specs.Areas.{area, bestAt, foundAt, seenIn, queueIn, bestIn, foundIn, Room, QueueKept, FoundKept}
+use Rattle.buffers.specs.Area.{area}
+use Rattle.expand.specs.Areas.{bestAt, foundAt, seenIn, queueIn, bestIn, foundIn, Room, QueueKept, FoundKept}
 use Rattle.expand.specs.Steps.{found, foundAfter, entriesAfter, atMost, exactly, WorkedOut, Visited, taken, Joined, TakenIn}
-use Rattle.expand.proofs.Places.{length-area, set-low}
+use Rattle.buffers.proofs.Places.{length-area, set-low}
 use Rattle.expand.proofs.Areas.{FoundPushed, found-pushed, BestPushed, best-pushed, seen-marked, queue-grown, queue-stored, queue-kept, queue-kept-on, found-kept, found-kept-on, room-kept}
 
 -- ---- a distance is worked out

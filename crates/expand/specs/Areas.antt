@@ -4,6 +4,7 @@ use mathlib.Core.List.{List}
 use Prim.Native.Nat.{ℕ, _+_, _≤_}
 use lib.ListN.{take, drop, length}
 use lib.Ieee.{Float}
+use Rattle.buffers.specs.Area.{area}
 use Rattle.rules.specs.declared.Neighbor.{Neighbor}
 use Rattle.rules.specs.Lists.{entries}
 
@@ -13,11 +14,6 @@ bestAt n = n + n
 
 abbrev pub foundAt : ℕ → ℕ
 foundAt n = n + n + 64
-
-module _ {A : Type 0} where
-  -- w places from a on
-  abbrev pub area : ℕ → ℕ → List A → List A
-  area a w xs = take w (drop a xs)
 
 abbrev pub seenIn : ℕ → List ℕ → List ℕ
 seenIn n us = take n us

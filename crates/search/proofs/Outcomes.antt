@@ -30,8 +30,9 @@ use Rattle.metrics.proofs.Fitness.{query-fit, fit-plain}
 use Rattle.lists.proofs.Slices.{nodesOf-entries, distancesOf-entries, length-entries, getD-entries}
 use Rattle.expand.specs.declared.Counted.{Counted}
 use Rattle.expand.specs.declared.Counted.the-variants as counted
-use Rattle.expand.specs.Areas.{area, bestAt, bestIn, Room}
-use Rattle.expand.proofs.Places.{length-area}
+use Rattle.buffers.specs.Area.{area}
+use Rattle.expand.specs.Areas.{bestAt, bestIn, Room}
+use Rattle.buffers.proofs.Places.{length-area}
 use Rattle.expand.proofs.Sound.{Whenever}
 use Rattle.walk.specs.Walks.{endsIn, WalkedIn}
 use Rattle.search.specs.Search.{Ready, Worked, Searched}

@@ -15,9 +15,10 @@ use Rattle.rules.specs.Search.{Going, on, unfitAt, andThen, worksOut, rootsFoun
 use Rattle.lists.proofs.Slices.{entries-suc, entries-same, nodesOf-entries}
 use Rattle.expand.specs.declared.Counted.{Counted}
 use Rattle.expand.specs.declared.Counted.the-variants as counted
-use Rattle.expand.specs.Areas.{area, bestAt, foundAt, seenIn, queueIn, bestIn, foundIn, Room, QueueKept, FoundKept}
+use Rattle.buffers.specs.Area.{area}
+use Rattle.expand.specs.Areas.{bestAt, foundAt, seenIn, queueIn, bestIn, foundIn, Room, QueueKept, FoundKept}
 use Rattle.expand.specs.Steps.{entriesAfter, exactly, WorkedOut}
-use Rattle.expand.proofs.Places.{length-area, set-area, set-low, set-high}
+use Rattle.buffers.proofs.Places.{length-area, set-area, set-low, set-high}
 use Rattle.expand.proofs.Areas.{queue-grown, queue-stored, found-kept, found-kept-on}
 use Rattle.walk.specs.Walks.{RootsFound, Entered}
 

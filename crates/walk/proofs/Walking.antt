@@ -20,10 +20,11 @@ use Rattle.lists.proofs.Laws.{take-min}
 use Rattle.lists.proofs.Slices.{take-entries, length-entries}
 use Rattle.expand.specs.declared.Counted.{Counted}
 use Rattle.expand.specs.declared.Counted.the-variants as counted
-use Rattle.expand.specs.Areas.{area, bestAt, foundAt, seenIn, queueIn, bestIn, foundIn, Room}
+use Rattle.buffers.specs.Area.{area}
+use Rattle.expand.specs.Areas.{bestAt, foundAt, seenIn, queueIn, bestIn, foundIn, Room}
 use Rattle.expand.specs.Steps.{entriesAfter, exactly}
 use Rattle.expand.specs.Queue.{ones, AllBelow, QueueSound, walkIn, walkAfter, soundAfter, Expanded}
-use Rattle.expand.proofs.Places.{length-area}
+use Rattle.buffers.proofs.Places.{length-area}
 use Rattle.expand.proofs.Sound.{ones-most, Whenever}
 use Rattle.walk.specs.Walks.{Roots, RootsFound, Marked, Entered, startsIn, StartedIn, endsIn, WalkedIn}
 use Rattle.walk.proofs.Marks.{marks-long, marks-count, found-below, all-below}

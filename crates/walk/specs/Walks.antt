@@ -12,7 +12,8 @@ use Rattle.rules.specs.Lists.{nodesOf}
 use Rattle.rules.specs.Search.{Walk, Going, on, unfitAt, mark, rootsFound, started}
 use Rattle.expand.specs.declared.Counted.{Counted}
 use Rattle.expand.specs.declared.Counted.the-variants.{Count, Unfit}
-use Rattle.expand.specs.Areas.{area, foundAt, seenIn, queueIn, bestIn, foundIn, FoundKept}
+use Rattle.buffers.specs.Area.{area}
+use Rattle.expand.specs.Areas.{foundAt, seenIn, queueIn, bestIn, foundIn, FoundKept}
 use Rattle.expand.specs.Steps.{entriesAfter, exactly}
 use Rattle.expand.specs.Queue.{QueueSound, walkIn}
 

@@ -6,7 +6,7 @@ use native.Mathlib.Omega.{arith}
 use lib.ListN.{length, take, drop, set, length-append, length-take, length-drop}
 use lib.Seq.{length-take-le, take-all, take-take, take-add, drop-drop, take-append-le, drop-append-le, take-at, drop-at, drop-append-add, take-set-le, drop-set-lt, take-set-lt, drop-set-add}
 use borrow.Rule.Slice.PartMut.{putMid, same-len-mid}
-use Rattle.expand.specs.Areas.{area}
+use Rattle.buffers.specs.Area.{area}
 
 module _ {A : Type 0} where
   pub length-area : (a w : ℕ) (xs : List A) → a + w ≤ length xs → length (area a w xs) ≡ w

@@ -1,0 +1,2 @@
+-- Areas of a lent buffer.
+pub mod Area

@@ -1,0 +1,2 @@
+-- `Laws`: the exact lists written one behind the other.
+pub mod Laws

@@ -1,0 +1,2 @@
+-- The exact lists of all nodes in one slice.
+pub mod Taught
