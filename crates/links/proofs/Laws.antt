@@ -2,27 +2,26 @@
 use mathlib.Core.Path.{_≡_, refl, sym, ap, _∙_}
 use mathlib.Core.Bool.{Bool, true, false, cond, true≢false}
 use mathlib.Core.List.{List, [], _∷_, _++_, append-nil}
-use Prim.Native.Nat.{ℕ, zero, suc, _+_, _-_, _*_, _≤_, _<_, zero-le, suc-le-suc}
+use Prim.Native.Nat.{ℕ, zero, suc, _+_, _-_, _*_, _≤_, _<_}
 use native.Mathlib.Nat.{le-of-suc-le-suc, not-suc-le-zero, add-zero}
 use native.Mathlib.Omega.{arith}
 use lib.Dec.{ltb, eqb}
-use lib.ListN.{length, take, drop, getD, set, length-append, length-set, take-append-drop, drop-of-length-le}
+use lib.ListN.{length, take, drop, getD, set, replicate, length-append, length-set, take-append-drop, drop-of-length-le}
 use lib.Seq.{take-set-le, drop-set-add, getD-set-same, length-take-le, take-at}
 use lib.Ieee.{Float, eq, ofBits}
-use borrow.Author.Tests.{ltb-true, ltb-false, lt-ltb, le-ltb, eq-eqb, ne-eqb}
+use borrow.Author.Tests.{ltb-false, lt-ltb, le-ltb, eq-eqb, ne-eqb}
 use Rattle.rules.specs.declared.Neighbor.{Neighbor}
-use Rattle.rules.specs.Loops.{over, part, putPart}
+use Rattle.rules.specs.Loops.{each, over, part, putPart}
 use Rattle.rules.specs.Lists.{neighbor, nodeOf, entries, sort}
-use Rattle.rules.specs.Rows.{emptyDistance, isEmpty, live}
-use Rattle.rules.specs.Build.{Between, occludes, choose, markNext, rewritten, atEmpty, atFull, offered}
+use Rattle.rules.specs.Rows.{emptyDistance, isEmpty, emptySlot, live}
+use Rattle.rules.specs.Build.{Between, occludes, choose, markNext, rewritten, atFull, offered, rowOf}
 use Rattle.lists.specs.Lists.{SortedIn}
-use Rattle.lists.specs.All.{All}
 use Rattle.lists.proofs.Slices.{length-entries, take-entries, entries-suc, entries-same}
 use Rattle.lists.proofs.Plain.{all-append, all-take, all-weaker}
 use Rattle.prune.specs.Chosen.{AllBelow, Chosen}
 use Rattle.prune.proofs.Laws.{below-append, below-sort, below-choose}
 use Rattle.rows.specs.Live.{LiveIn}
-use Rattle.rows.proofs.Laws.{entries-from, length-live}
+use Rattle.rows.proofs.Laws.{entries-from}
 use Rattle.links.specs.Links.{Sound}
 
 -- an entry written behind the first k
@@ -239,6 +238,20 @@ module _ (n : ℕ) where
           let B = sound-full row S (omega arith) in
           sound-rewritten (choose (occludes d t true) w (sort (row ++ (e ∷ [])))) row
           (below-choose (occludes d t true) w n (sort (row ++ (e ∷ []))) (below-sort n (row ++ (e ∷ [])) (below-append n row (e ∷ []) B (l, tt)))) S
+
+  -- the rows that step 4 writes: their kept entries are below n, and the rest is empty
+  sound-empty : (m : ℕ) → Sound n (replicate m (emptySlot n))
+  sound-empty zero = tt
+  sound-empty (suc m) = (λ (q : isEmpty (emptySlot n) ≡ false). absurd (true≢false (sym (is-empty n) ∙ q)), sound-empty m)
+
+  pub sound-row-of : (w : ℕ) (kept : List Neighbor) → AllBelow n kept → Sound n (rowOf n w kept)
+  unfolding rowOf
+  sound-row-of w kept K = sound-append kept (replicate (w - length kept) (emptySlot n)) (below-sound kept K) (sound-empty (w - length kept))
+
+  pub sound-each : (f : ℕ → List Neighbor) (m : ℕ) → ((q : ℕ) → q < m → Sound n (f q)) → Sound n (each f m)
+  unfolding each
+  sound-each f zero F = tt
+  sound-each f (suc m) F = sound-append (each f m) (f m) (sound-each f m (λ (q : ℕ) (l : q < m). F q (omega arith))) (F m (omega arith))
 
   pub sound-part : (w q : ℕ) (es : List Neighbor) → Sound n es → Sound n (part w q es)
   unfolding part

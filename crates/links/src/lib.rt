@@ -1,7 +1,7 @@
 // Step 5 of build, the reverse links: the n times `index_size` slots are a flat list of entries in two slices.
 ghost use mathlib.Core.Path.{_≡_};
 ghost use mathlib.Core.List.{[], _∷_, _++_};
-ghost use Prim.Native.Nat.{_+_, _*_, _≤_, _<_};
+ghost use Prim.Native.Nat.{_+_, _*_, _<_};
 ghost use lib.ListN.{length};
 ghost use Rattle.rules.specs.Lists.{entries, sort};
 ghost use Rattle.rules.specs.Distance.{between};
@@ -173,14 +173,17 @@ fn link(
     requires { ⌜ Room n «index_size» (now nodes) (now dists) (now «pool_nodes») (now «pool_dists») ⌝ }
     ensures { λ _. ⌜ Linked n «index_size» (link (between (now (lanes .entry)) dimension) threshold «index_size» (v .0) i (entries (n * «index_size») (now (nodes .entry)) (now (dists .entry)))) (now (nodes .exit)) (now (dists .exit)) ⌝ }
 {
-    let slot = Slot(i + v.0 as usize);
+    let first = v.0 as usize;
+    let slot = Slot(i + first);
     let at = slot.0;
-    if dists[at] == rows::EMPTY {
+    let distance = dists[at];
+    if distance == rows::EMPTY {
         return;
     }
+    let node = nodes[at];
     let e = Neighbor {
-        node: NodeId(nodes[at]),
-        distance: dists[at],
+        node: NodeId(node),
+        distance: distance,
     };
     link_back(
         lanes,

@@ -13,7 +13,7 @@ use borrow.Rule.Slice.PartMut.{midOf, putMid, same-len-mid}
 use Rattle.rules.specs.declared.Neighbor.{Neighbor}
 use Rattle.rules.specs.Loops.{each, part}
 use Rattle.rules.specs.Lists.{neighbor, nodesOf, entries}
-use Rattle.rules.specs.Rows.{emptyDistance, isEmpty, emptySlot, live, finished}
+use Rattle.rules.specs.Rows.{emptyDistance, isEmpty, live, finished}
 use Rattle.rules.specs.Build.{rowOf, graphFrom}
 use Rattle.rules.proofs.Loops.{length-each}
 use Rattle.lists.proofs.Slices.{length-entries, drop-entries, entries-take, take-entries, entries-suc, nodesOf-entries}

@@ -8,8 +8,8 @@ use borrow.Author.Needs.{needs}
 use Rattle.links.proofs.link.Statement.{statement}
 use Rattle.links.proofs.link.Tie as tie
 
-cast-t15 : tie.Need-cast-t15
-cast-t15 c =
+cast-first : tie.Need-cast-first
+cast-first c =
     let start = c .before .before .before .before .before .before in
     let pre = start .pre in
     let n = start .args .n in
@@ -18,8 +18,8 @@ cast-t15 c =
     let at = slot-in n w (start .args .v .0) (start .args .i) (pre .0 .1) (pre .0 .2) in
     search needs
 
-add-t16 : tie.Need-add-t16
-add-t16 c =
+add-distance : tie.Need-add-distance
+add-distance c =
     let start = c .before .before .before .before .before .before in
     let pre = start .pre in
     let n = start .args .n in
@@ -28,8 +28,8 @@ add-t16 c =
     let at = slot-in n w (start .args .v .0) (start .args .i) (pre .0 .1) (pre .0 .2) in
     search needs
 
-mul-if1 : tie.Need-mul-if1
-mul-if1 c =
+mul-distance : tie.Need-mul-distance
+mul-distance c =
     let start = c .before .before .before .before .before .before in
     let pre = start .pre in
     let n = start .args .n in
@@ -38,8 +38,8 @@ mul-if1 c =
     let at = slot-in n w (start .args .v .0) (start .args .i) (pre .0 .1) (pre .0 .2) in
     search needs
 
-slice-read-if1 : tie.Need-slice-read-if1
-slice-read-if1 c =
+slice-read-distance : tie.Need-slice-read-distance
+slice-read-distance c =
     let start = c .before .before .before .before .before .before .before in
     let pre = start .pre in
     let n = start .args .n in
@@ -59,8 +59,8 @@ returns c =
     let at = slot-in n w (start .args .v .0) (start .args .i) (pre .0 .1) (pre .0 .2) in
     link-empty n w (start .args .nodes .now) (start .args .dists .now) (between (start .args .lanes .now) (start .args .dimension)) (start .args .threshold) (start .args .v .0) (start .args .i) (pre .1 .nodes) (pre .1 .dists) at (pre .0 .3) nan (rw (c .if1 .taken))
 
-mul-t16 : tie.Need-mul-t16
-mul-t16 c =
+mul-node : tie.Need-mul-node
+mul-node c =
     let start = c .before .before .before .before .before .before .before .before in
     let pre = start .pre in
     let n = start .args .n in
@@ -69,29 +69,9 @@ mul-t16 c =
     let at = slot-in n w (start .args .v .0) (start .args .i) (pre .0 .1) (pre .0 .2) in
     search needs
 
-slice-read-t21 : tie.Need-slice-read-t21
-slice-read-t21 c =
+slice-read-node : tie.Need-slice-read-node
+slice-read-node c =
     let start = c .before .before .before .before .before .before .before .before .before in
-    let pre = start .pre in
-    let n = start .args .n in
-    let w = start .args .index-size in
-    let most = slots-most n w (pre .1 .most) (pre .1 .wide) in
-    let at = slot-in n w (start .args .v .0) (start .args .i) (pre .0 .1) (pre .0 .2) in
-    search needs
-
-mul-t15 : tie.Need-mul-t15
-mul-t15 c =
-    let start = c .before .before .before .before .before .before .before .before .before in
-    let pre = start .pre in
-    let n = start .args .n in
-    let w = start .args .index-size in
-    let most = slots-most n w (pre .1 .most) (pre .1 .wide) in
-    let at = slot-in n w (start .args .v .0) (start .args .i) (pre .0 .1) (pre .0 .2) in
-    search needs
-
-slice-read-t18 : tie.Need-slice-read-t18
-slice-read-t18 c =
-    let start = c .before .before .before .before .before .before .before .before .before .before in
     let pre = start .pre in
     let n = start .args .n in
     let w = start .args .index-size in
@@ -102,13 +82,13 @@ slice-read-t18 c =
 link-back-requires : tie.Need-link-back-requires
 unfolding isEmpty
 link-back-requires c κs =
-    let start = c .before .before .before .before .before .before .before .before .before .before .before .before .before .before in
+    let start = c .before .before .before .before .before .before .before .before .before .before .before .before .before in
     let pre = start .pre in
     let n = start .args .n in
     let w = start .args .index-size in
     let most = slots-most n w (pre .1 .most) (pre .1 .wide) in
     let at = slot-in n w (start .args .v .0) (start .args .i) (pre .0 .1) (pre .0 .2) in
-    ((pre .0 .0, pre .0 .1, slot-below n w (start .args .nodes .now) (start .args .dists .now) (between (start .args .lanes .now) (start .args .dimension)) (start .args .threshold) (start .args .v .0) (start .args .i) (pre .1 .nodes) (pre .1 .dists) at (pre .0 .3) nan (rw (c .before .before .before .before .before .before .if1 .left)), pre .0 .3), pre .1)
+    ((pre .0 .0, pre .0 .1, slot-below n w (start .args .nodes .now) (start .args .dists .now) (between (start .args .lanes .now) (start .args .dimension)) (start .args .threshold) (start .args .v .0) (start .args .i) (pre .1 .nodes) (pre .1 .dists) at (pre .0 .3) nan (rw (c .before .before .before .before .before .if1 .left)), pre .0 .3), pre .1)
 
 same-length : tie.Need-same-length
 same-length c = search needs
@@ -125,27 +105,25 @@ same-length-4 c = search needs
 returns-2 : tie.Need-returns-2
 unfolding isEmpty
 returns-2 c =
-    let start = c .before .before .before .before .before .before .before .before .before .before .before .before .before .before .before .before .before .before .before .before .before .before .before in
+    let start = c .before .before .before .before .before .before .before .before .before .before .before .before .before .before .before .before .before .before .before .before .before .before in
     let pre = start .pre in
     let n = start .args .n in
     let w = start .args .index-size in
     let most = slots-most n w (pre .1 .most) (pre .1 .wide) in
     let at = slot-in n w (start .args .v .0) (start .args .i) (pre .0 .1) (pre .0 .2) in
-    link-on n w (start .args .nodes .now) (start .args .dists .now) (between (start .args .lanes .now) (start .args .dimension)) (start .args .threshold) (start .args .v .0) (start .args .i) (pre .1 .nodes) (pre .1 .dists) at (pre .0 .3) nan (rw (c .before .before .before .before .before .before .before .before .before .before .before .before .before .before .before .if1 .left)) (c .before .before .before .before .before .before .before .before .link-back .ensures)
+    link-on n w (start .args .nodes .now) (start .args .dists .now) (between (start .args .lanes .now) (start .args .dimension)) (start .args .threshold) (start .args .v .0) (start .args .i) (pre .1 .nodes) (pre .1 .dists) at (pre .0 .3) nan (rw (c .before .before .before .before .before .before .before .before .before .before .before .before .before .before .if1 .left)) (c .before .before .before .before .before .before .before .before .link-back .ensures)
 
 pub link-spec : {M : Type 1} → statement M
 link-spec =
     tie.close
     (tie.spec
-    cast-t15
-    add-t16
-    mul-if1
-    slice-read-if1
+    cast-first
+    add-distance
+    mul-distance
+    slice-read-distance
     returns
-    mul-t16
-    slice-read-t21
-    mul-t15
-    slice-read-t18
+    mul-node
+    slice-read-node
     link-back-requires
     same-length
     same-length-2
