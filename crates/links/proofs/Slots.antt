@@ -20,8 +20,9 @@ use Rattle.lists.proofs.Slices.{length-entries, entries-take, take-entries, get
 use Rattle.lists.proofs.Plain.{all-at}
 use Rattle.rows.specs.Live.{LiveIn}
 use Rattle.rows.proofs.Laws.{row-in, entries-append, entries-from, part-entries}
-use Rattle.links.specs.Links.{Sound, Room, Linked, linksOf, linksAll}
-use Rattle.links.proofs.Laws.{sound-offered, sound-part, sound-put}
+use Rattle.offers.specs.Sound.{Sound}
+use Rattle.offers.proofs.Laws.{sound-offered, sound-part, sound-put}
+use Rattle.links.specs.Links.{Room, Linked, linksOf, linksAll}
 
 -- ---- a row is lent, k places from q * w on, and comes back: the entries are those with part q replaced
 
