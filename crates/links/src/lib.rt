@@ -1,8 +1,10 @@
 // Step 5 of build, the reverse links: the n times `index_size` slots are a flat list of entries in two slices.
 ghost use mathlib.Core.Path.{_≡_};
-ghost use Prim.Native.Nat.{_*_, _<_};
+ghost use Prim.Native.Nat.{_*_, _≤_, _<_};
 ghost use lib.ListN.{length};
-ghost use Rattle.rules.specs.Lists.{entries};
+ghost use Rattle.rules.specs.Loops.{has, part};
+ghost use Rattle.rules.specs.Lists.{entries, nodesOf};
+ghost use Rattle.rules.specs.Rows.{live};
 ghost use Rattle.rules.specs.Distance.{between};
 ghost use Rattle.rules.specs.Build.{linkBack, link};
 ghost use Rattle.offers.specs.Sound.{Sound};
@@ -10,6 +12,26 @@ ghost use Rattle.links.specs.Links.{Room, Linked, linksOf, linksAll};
 use rules::Neighbor;
 use rules::NodeId;
 use rules::Slot;
+
+// Whether `v` is in the live part of row `q`.
+fn is_linked(
+    n: usize,
+    index_size: usize,
+    nodes: &[u32],
+    dists: &[f32],
+    q: NodeId,
+    v: NodeId,
+) -> bool
+    requires { ⌜ (q .0 < n) × (n ≤ 4096) × («index_size» ≤ 64) ⌝ }
+    requires { ⌜ (n * «index_size» ≤ length (now nodes)) × (n * «index_size» ≤ length (now dists)) ⌝ }
+    ensures { λ r. ⌜ r ≡ has (v .0) (nodesOf (live (part «index_size» (q .0) (entries (n * «index_size») (now (nodes .entry)) (now (dists .entry)))))) ⌝ }
+{
+    let row = q.0 as usize;
+    let from = row * index_size;
+    let to = from + index_size;
+    let len = rows::live_len(&dists[from..to], index_size);
+    table::has(&nodes[from..to], len, v.0)
+}
 
 // Offers `v` to the row of the entry `e` that was read in a slot, unless it is in the row's live part.
 fn link_back(
@@ -29,14 +51,13 @@ fn link_back(
     requires { ⌜ Room n «index_size» (now nodes) (now dists) (now «pool_nodes») (now «pool_dists») ⌝ }
     ensures { λ _. ⌜ Linked n «index_size» (linkBack (between (now (lanes .entry)) dimension) threshold «index_size» (v .0) e (entries (n * «index_size») (now (nodes .entry)) (now (dists .entry)))) (now (nodes .exit)) (now (dists .exit)) ⌝ }
 {
-    let node = e.node;
-    let q = node.0 as usize;
-    let from = q * index_size;
-    let to = from + index_size;
-    let live = rows::live_len(&dists[from..to], index_size);
-    if table::has(&nodes[from..to], live, v.0) {
+    let q = e.node;
+    if is_linked(n, index_size, nodes, dists, q, v) {
         return;
     }
+    let row = q.0 as usize;
+    let from = row * index_size;
+    let to = from + index_size;
     let given = Neighbor {
         node: v,
         distance: e.distance,
