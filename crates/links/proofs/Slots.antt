@@ -20,8 +20,9 @@ use Rattle.lists.proofs.Slices.{length-entries, entries-take, take-entries, get
 use Rattle.lists.proofs.Plain.{all-at}
 use Rattle.rows.specs.Live.{LiveIn}
 use Rattle.rows.proofs.Laws.{row-in, entries-append, entries-from, part-entries}
-use Rattle.links.specs.Links.{Sound, Room, Linked, linksOf, linksAll}
-use Rattle.links.proofs.Laws.{sound-offered, sound-part, sound-put}
+use Rattle.offers.specs.Sound.{Sound}
+use Rattle.offers.proofs.Laws.{sound-offered, sound-part, sound-put}
+use Rattle.links.specs.Links.{Room, Linked, linksOf, linksAll}
 
 -- ---- a row is lent, k places from q * w on, and comes back: the entries are those with part q replaced
 
@@ -44,67 +45,73 @@ put-entries w q m ns ys ds zs h k g y z =
     ∙ ap (λ (l : List Neighbor). take a (entries m ns ds) ++ l) (entries-append w r ys (drop w (drop a ns)) zs (drop w (drop a ds)) y z)
     ∙ ap (λ (l : List Neighbor). take a (entries m ns ds) ++ (entries w ys zs ++ l)) rest
 
--- ---- the row of the entry that was read
+-- ---- row q
 
-module _ (n w : ℕ) (ns : List ℕ) (ds : List Float) (d : Between) (t : Float) (v : ℕ) (e : Neighbor) (h : n * w ≤ length ns) (g : n * w ≤ length ds) (q : nodeOf e < n) (S : Sound n (entries (n * w) ns ds)) where
-  row-is : part w (nodeOf e) (entries (n * w) ns ds) ≡ entries w (midOf (nodeOf e * w) w ns) (midOf (nodeOf e * w) w ds)
+module _ (n w : ℕ) (ns : List ℕ) (ds : List Float) (q : ℕ) (h : n * w ≤ length ns) (g : n * w ≤ length ds) (l : q < n) where
+  row-is : part w q (entries (n * w) ns ds) ≡ entries w (midOf (q * w) w ns) (midOf (q * w) w ds)
   unfolding part
-  row-is = part-entries w (nodeOf e) (n * w) ns ds (row-in n w (nodeOf e) q) h g
+  row-is = part-entries w q (n * w) ns ds (row-in n w q l) h g
 
-  row-sound : Sound n (entries w (midOf (nodeOf e * w) w ns) (midOf (nodeOf e * w) w ds))
-  row-sound = rw (← row-is) (sound-part n w (nodeOf e) (entries (n * w) ns ds) S)
+  row-long : length (midOf (q * w) w ns) ≡ w
+  row-long = let r = row-in n w q l in length-take-le w (drop (q * w) ns) (rw (length-drop (q * w) ns) (omega arith))
 
-  row-long : length (midOf (nodeOf e * w) w ns) ≡ w
-  row-long = let r = row-in n w (nodeOf e) q in length-take-le w (drop (nodeOf e * w) ns) (rw (length-drop (nodeOf e * w) ns) (omega arith))
+  row-dists : length (midOf (q * w) w ds) ≡ w
+  row-dists = let r = row-in n w q l in length-take-le w (drop (q * w) ds) (rw (length-drop (q * w) ds) (omega arith))
 
-  row-dists : length (midOf (nodeOf e * w) w ds) ≡ w
-  row-dists = let r = row-in n w (nodeOf e) q in length-take-le w (drop (nodeOf e * w) ds) (rw (length-drop (nodeOf e * w) ds) (omega arith))
-
-  pub lent-sound : (k : ℕ) → k ≡ w → Sound n (entries w (midOf (nodeOf e * w) k ns) (midOf (nodeOf e * w) k ds))
-  lent-sound k u = rw u row-sound
-
-  live-nodes : {r : ℕ} → LiveIn w (midOf (nodeOf e * w) w ds) r → nodesOf (live (part w (nodeOf e) (entries (n * w) ns ds))) ≡ take r (midOf (nodeOf e * w) w ns)
+  live-nodes : {r : ℕ} → LiveIn w (midOf (q * w) w ds) r → nodesOf (live (part w q (entries (n * w) ns ds))) ≡ take r (midOf (q * w) w ns)
   live-nodes {r} made =
       let in-row = made .within in
       let i = row-long in
       let j = row-dists in
       ap (λ (l : List Neighbor). nodesOf (live l)) row-is
-      ∙ ap nodesOf (made .list (midOf (nodeOf e * w) w ns) (omega arith))
-      ∙ nodesOf-entries r (midOf (nodeOf e * w) w ns) (midOf (nodeOf e * w) w ds) (omega arith)
+      ∙ ap nodesOf (made .list (midOf (q * w) w ns) (omega arith))
+      ∙ nodesOf-entries r (midOf (q * w) w ns) (midOf (q * w) w ds) (omega arith)
 
-  module _ (k : ℕ) (u : k ≡ w) {r : ℕ} (made : LiveIn w (midOf (nodeOf e * w) k ds) r) where
-    known : has v (nodesOf (live (part w (nodeOf e) (entries (n * w) ns ds)))) ≡ has v (take r (midOf (nodeOf e * w) k ns))
-    known = ap (has v) (live-nodes {r = r} (subst (λ (x : ℕ). LiveIn w (midOf (nodeOf e * w) x ds) r) u made)) ∙ ap (λ (x : ℕ). has v (take r (midOf (nodeOf e * w) x ns))) (sym u)
+  -- the row is lent, k places
+  pub known : (v k : ℕ) → k ≡ w → {r : ℕ} → LiveIn w (midOf (q * w) k ds) r
+      → has v (take r (midOf (q * w) k ns)) ≡ has v (nodesOf (live (part w q (entries (n * w) ns ds))))
+  known v k u {r} made =
+      ap (λ (x : ℕ). has v (take r (midOf (q * w) x ns))) u
+      ∙ sym (ap (has v) (live-nodes {r = r} (subst (λ (x : ℕ). LiveIn w (midOf (q * w) x ds) r) u made)))
 
-    -- "If v is in w's live part, go on."
-    pub linked-known : has v (take r (midOf (nodeOf e * w) k ns)) ≡ true → Linked n w (linkBack d t w v e (entries (n * w) ns ds)) ns ds
-    unfolding linkBack
-    linked-known b = record { list = rw (known ∙ b); sound = S }
+-- ---- the row of the entry that was read
 
-    -- "Otherwise offer (v, that slot's distance) to row w."
-    pub linked-offered : has v (take r (midOf (nodeOf e * w) k ns)) ≡ false → v < n → (ys : List ℕ) (zs : List Float)
-        → length ys ≡ length (midOf (nodeOf e * w) k ns) → length zs ≡ length (midOf (nodeOf e * w) k ds)
-        → entries w ys zs ≡ offered d t w (neighbor v (e .distance)) (entries w (midOf (nodeOf e * w) k ns) (midOf (nodeOf e * w) k ds))
-        → Linked n w (linkBack d t w v e (entries (n * w) ns ds)) (putMid (nodeOf e * w) k ns ys) (putMid (nodeOf e * w) k ds zs)
-    unfolding linkBack
-    linked-offered b l ys zs y z o =
-        let at = nodeOf e in
-        let slots = entries (n * w) ns ds in
-        let offer = neighbor v (e .distance) in
-        let y' : length ys ≡ w = y ∙ ap (λ (x : ℕ). length (midOf (at * w) x ns)) u ∙ row-long in
-        let z' : length zs ≡ w = z ∙ ap (λ (x : ℕ). length (midOf (at * w) x ds)) u ∙ row-dists in
-        let o' : entries w ys zs ≡ offered d t w offer (part w at slots) =
-        o ∙ ap (λ (x : ℕ). offered d t w offer (entries w (midOf (at * w) x ns) (midOf (at * w) x ds))) u ∙ ap (offered d t w offer) (sym row-is) in
-        let back : entries (n * w) (putMid (at * w) k ns ys) (putMid (at * w) k ds zs) ≡ putPart w at (offered d t w offer (part w at slots)) slots =
-        ap (λ (x : ℕ). entries (n * w) (putMid (at * w) x ns ys) (putMid (at * w) x ds zs)) u
-        ∙ put-entries w at (n * w) ns ys ds zs (row-in n w at q) h g y' z'
-        ∙ ap (λ (l : List Neighbor). putPart w at l slots) o' in
-        let long : length (part w at slots) ≡ w =
-        ap length row-is ∙ length-entries w (midOf (at * w) w ns) (midOf (at * w) w ds) (rw row-long (omega arith)) (rw row-dists (omega arith)) in
-        record {
-          list = rw (known ∙ b) back;
-          sound = rw back (sound-put n w at (offered d t w offer (part w at slots)) slots (sound-offered n d t w offer (part w at slots) long l (sound-part n w at slots S)) S);
-        }
+module _ (n w : ℕ) (ns : List ℕ) (ds : List Float) (d : Between) (t : Float) (v : ℕ) (e : Neighbor) (h : n * w ≤ length ns) (g : n * w ≤ length ds) (q : nodeOf e < n) (S : Sound n (entries (n * w) ns ds)) where
+  pub lent-sound : (k : ℕ) → k ≡ w → Sound n (entries w (midOf (nodeOf e * w) k ns) (midOf (nodeOf e * w) k ds))
+  lent-sound k u = rw (u, ← row-is n w ns ds (nodeOf e) h g q) (sound-part n w (nodeOf e) (entries (n * w) ns ds) S)
+
+  -- "If v is in w's live part, go on."
+  pub linked-known : has v (nodesOf (live (part w (nodeOf e) (entries (n * w) ns ds)))) ≡ true → Linked n w (linkBack d t w v e (entries (n * w) ns ds)) ns ds
+  unfolding linkBack
+  linked-known b = record { list = rw b; sound = S }
+
+  -- "Otherwise offer (v, that slot's distance) to row w."
+  pub linked-offered : has v (nodesOf (live (part w (nodeOf e) (entries (n * w) ns ds)))) ≡ false → v < n → (k : ℕ) → k ≡ w → (ys : List ℕ) (zs : List Float)
+      → length ys ≡ length (midOf (nodeOf e * w) k ns) → length zs ≡ length (midOf (nodeOf e * w) k ds)
+      → entries w ys zs ≡ offered d t w (neighbor v (e .distance)) (entries w (midOf (nodeOf e * w) k ns) (midOf (nodeOf e * w) k ds))
+      → Linked n w (linkBack d t w v e (entries (n * w) ns ds)) (putMid (nodeOf e * w) k ns ys) (putMid (nodeOf e * w) k ds zs)
+  unfolding linkBack
+  linked-offered b l k u ys zs y z o =
+      let at = nodeOf e in
+      let slots = entries (n * w) ns ds in
+      let row = part w at slots in
+      let offer = neighbor v (e .distance) in
+      let is = row-is n w ns ds at h g q in
+      let a = row-long n w ns ds at h g q in
+      let c = row-dists n w ns ds at h g q in
+      let y' : length ys ≡ w = y ∙ ap (λ (x : ℕ). length (midOf (at * w) x ns)) u ∙ a in
+      let z' : length zs ≡ w = z ∙ ap (λ (x : ℕ). length (midOf (at * w) x ds)) u ∙ c in
+      let o' : entries w ys zs ≡ offered d t w offer row =
+      o ∙ ap (λ (x : ℕ). offered d t w offer (entries w (midOf (at * w) x ns) (midOf (at * w) x ds))) u ∙ ap (offered d t w offer) (sym is) in
+      let back : entries (n * w) (putMid (at * w) k ns ys) (putMid (at * w) k ds zs) ≡ putPart w at (offered d t w offer row) slots =
+      ap (λ (x : ℕ). entries (n * w) (putMid (at * w) x ns ys) (putMid (at * w) x ds zs)) u
+      ∙ put-entries w at (n * w) ns ys ds zs (row-in n w at q) h g y' z'
+      ∙ ap (λ (l : List Neighbor). putPart w at l slots) o' in
+      let long : length row ≡ w = ap length is ∙ length-entries w (midOf (at * w) w ns) (midOf (at * w) w ds) (rw a (omega arith)) (rw c (omega arith)) in
+      record {
+        list = rw b back;
+        sound = rw back (sound-put n w at (offered d t w offer row) slots (sound-offered n d t w offer row long l (sound-part n w at slots S)) S);
+      }
 
 -- ---- one link
 

@@ -1,28 +1,14 @@
--- Room for the slots and the pool, slots that can be linked, and what step 5 leaves in their slices. Assumes nothing.
+-- Room for the slots and the pool, and what step 5 leaves in their slices. Assumes nothing.
 use mathlib.Core.Path.{_≡_}
-use mathlib.Core.Bool.{false}
 use mathlib.Core.List.{List}
 use Prim.Native.Nat.{ℕ, _*_, _≤_, _<_}
 use lib.ListN.{length}
 use lib.Ieee.{Float}
 use Rattle.rules.specs.declared.Neighbor.{Neighbor}
 use Rattle.rules.specs.Loops.{turns}
-use Rattle.rules.specs.Lists.{nodeOf, entries}
-use Rattle.rules.specs.Rows.{isEmpty}
+use Rattle.rules.specs.Lists.{entries}
 use Rattle.rules.specs.Build.{Between, link}
-use Rattle.lists.specs.All.{All}
-
--- each slot that is not empty has a node below n
-abbrev pub Sound : ℕ → List Neighbor → Type 0
-Sound n es = All (λ (e : Neighbor). isEmpty e ≡ false → nodeOf e < n) es
-
--- a row of w slots, and a pool for it and one offer more
-pub record Row (w : ℕ) (ns : List ℕ) (ds : List Float) (ps : List ℕ) (qs : List Float) : Type 0 where
-  pub nodes : length ns ≡ w
-  pub dists : length ds ≡ w
-  pub pool-nodes : w < length ps
-  pub pool-dists : w < length qs
-  pub wide : w ≤ 64
+use Rattle.offers.specs.Sound.{Sound}
 
 -- n rows of w slots, and a pool for a row and one offer more
 pub record Room (n w : ℕ) (ns : List ℕ) (ds : List Float) (ps : List ℕ) (qs : List Float) : Type 0 where

@@ -1,114 +1,36 @@
 // Step 5 of build, the reverse links: the n times `index_size` slots are a flat list of entries in two slices.
 ghost use mathlib.Core.Path.{_≡_};
-ghost use mathlib.Core.List.{[], _∷_, _++_};
-ghost use Prim.Native.Nat.{_+_, _*_, _<_};
+ghost use Prim.Native.Nat.{_*_, _≤_, _<_};
 ghost use lib.ListN.{length};
-ghost use Rattle.rules.specs.Lists.{entries, sort};
+ghost use Rattle.rules.specs.Loops.{has, part};
+ghost use Rattle.rules.specs.Lists.{entries, nodesOf};
+ghost use Rattle.rules.specs.Rows.{live};
 ghost use Rattle.rules.specs.Distance.{between};
-ghost use Rattle.rules.specs.Build.{atFull, offered, linkBack, link};
-ghost use Rattle.prune.specs.Chosen.{AllBelow};
-ghost use Rattle.links.specs.Links.{Sound, Row, Room, Linked, linksOf, linksAll};
+ghost use Rattle.rules.specs.Build.{linkBack, link};
+ghost use Rattle.offers.specs.Sound.{Sound};
+ghost use Rattle.links.specs.Links.{Room, Linked, linksOf, linksAll};
 use rules::Neighbor;
 use rules::NodeId;
 use rules::Slot;
 
-// Sorts the entries of a row with the offer, in the pool.
-fn gather(
-    w: usize,
+// Whether `v` is in the live part of row `q`.
+fn is_linked(
+    n: usize,
+    index_size: usize,
     nodes: &[u32],
     dists: &[f32],
-    pool_nodes: &mut [u32],
-    pool_dists: &mut [f32],
-    offer: Neighbor,
-)
-    requires { ⌜ Row w (now nodes) (now dists) (now «pool_nodes») (now «pool_dists») ⌝ }
-    ensures { λ _. ⌜ entries (w + 1) (now («pool_nodes» .exit)) (now («pool_dists» .exit)) ≡ sort (entries w (now (nodes .entry)) (now (dists .entry)) ++ (offer ∷ [])) ⌝ }
+    q: NodeId,
+    v: NodeId,
+) -> bool
+    requires { ⌜ (q .0 < n) × (n ≤ 4096) × («index_size» ≤ 64) ⌝ }
+    requires { ⌜ (n * «index_size» ≤ length (now nodes)) × (n * «index_size» ≤ length (now dists)) ⌝ }
+    ensures { λ r. ⌜ r ≡ has (v .0) (nodesOf (live (part «index_size» (q .0) (entries (n * «index_size») (now (nodes .entry)) (now (dists .entry)))))) ⌝ }
 {
-    buffers::copy_words(w, nodes, pool_nodes);
-    buffers::copy_floats(w, dists, pool_dists);
-    let v = offer.node;
-    pool_nodes[w] = v.0;
-    pool_dists[w] = offer.distance;
-    lists::sort(pool_nodes, pool_dists, w + 1);
-}
-
-// What becomes of an offer at a full row: the chosen from the row's start, and the next slot marked.
-fn offer_full(
-    lanes: &[f32],
-    dimension: usize,
-    n: usize,
-    threshold: f32,
-    w: usize,
-    nodes: &mut [u32],
-    dists: &mut [f32],
-    pool_nodes: &mut [u32],
-    pool_dists: &mut [f32],
-    offer: Neighbor,
-)
-    requires { ⌜ (length (now lanes) ≡ n * dimension) × (offer .node .0 < n) × AllBelow n (entries w (now nodes) (now dists)) ⌝ }
-    requires { ⌜ Row w (now nodes) (now dists) (now «pool_nodes») (now «pool_dists») ⌝ }
-    ensures { λ _. ⌜ entries w (now (nodes .exit)) (now (dists .exit)) ≡ atFull (between (now (lanes .entry)) dimension) threshold w offer (entries w (now (nodes .entry)) (now (dists .entry))) ⌝ }
-{
-    gather(w, nodes, dists, pool_nodes, pool_dists, offer);
-    let len = w + 1;
-    let kept = prune::choose(
-        lanes,
-        dimension,
-        n,
-        threshold,
-        true,
-        pool_nodes,
-        pool_dists,
-        len,
-        nodes,
-        dists,
-        w,
-    );
-    if w <= kept {
-        return;
-    }
-    dists[kept] = rows::EMPTY;
-}
-
-// What becomes of an offer at a row.
-fn offer(
-    lanes: &[f32],
-    dimension: usize,
-    n: usize,
-    threshold: f32,
-    w: usize,
-    nodes: &mut [u32],
-    dists: &mut [f32],
-    pool_nodes: &mut [u32],
-    pool_dists: &mut [f32],
-    offer: Neighbor,
-)
-    requires { ⌜ (length (now lanes) ≡ n * dimension) × (offer .node .0 < n) × Sound n (entries w (now nodes) (now dists)) ⌝ }
-    requires { ⌜ Row w (now nodes) (now dists) (now «pool_nodes») (now «pool_dists») ⌝ }
-    ensures { λ _. ⌜ entries w (now (nodes .exit)) (now (dists .exit)) ≡ offered (between (now (lanes .entry)) dimension) threshold w offer (entries w (now (nodes .entry)) (now (dists .entry))) ⌝ }
-{
-    let live = rows::live_len(dists, w);
-    if w <= live {
-        offer_full(
-            lanes,
-            dimension,
-            n,
-            threshold,
-            w,
-            nodes,
-            dists,
-            pool_nodes,
-            pool_dists,
-            offer,
-        );
-        return;
-    }
-    if live + 1 != w {
-        return;
-    }
-    let v = offer.node;
-    nodes[live] = v.0;
-    dists[live] = offer.distance;
+    let row = q.0 as usize;
+    let from = row * index_size;
+    let to = from + index_size;
+    let len = rows::live_len(&dists[from..to], index_size);
+    table::has(&nodes[from..to], len, v.0)
 }
 
 // Offers `v` to the row of the entry `e` that was read in a slot, unless it is in the row's live part.
@@ -129,19 +51,18 @@ fn link_back(
     requires { ⌜ Room n «index_size» (now nodes) (now dists) (now «pool_nodes») (now «pool_dists») ⌝ }
     ensures { λ _. ⌜ Linked n «index_size» (linkBack (between (now (lanes .entry)) dimension) threshold «index_size» (v .0) e (entries (n * «index_size») (now (nodes .entry)) (now (dists .entry)))) (now (nodes .exit)) (now (dists .exit)) ⌝ }
 {
-    let node = e.node;
-    let q = node.0 as usize;
-    let from = q * index_size;
-    let to = from + index_size;
-    let live = rows::live_len(&dists[from..to], index_size);
-    if table::has(&nodes[from..to], live, v.0) {
+    let q = e.node;
+    if is_linked(n, index_size, nodes, dists, q, v) {
         return;
     }
+    let row = q.0 as usize;
+    let from = row * index_size;
+    let to = from + index_size;
     let given = Neighbor {
         node: v,
         distance: e.distance,
     };
-    offer(
+    offers::offer(
         lanes,
         dimension,
         n,

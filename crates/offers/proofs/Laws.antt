@@ -22,7 +22,7 @@ use Rattle.prune.specs.Chosen.{AllBelow, Chosen}
 use Rattle.prune.proofs.Laws.{below-append, below-sort, below-choose}
 use Rattle.rows.specs.Live.{LiveIn}
 use Rattle.rows.proofs.Laws.{entries-from}
-use Rattle.links.specs.Links.{Sound}
+use Rattle.offers.specs.Sound.{Sound}
 
 -- an entry written behind the first k
 pub entries-put : (k : ℕ) (ns : List ℕ) (ds : List Float) (v : ℕ) (x : Float) → k < length ns → k < length ds

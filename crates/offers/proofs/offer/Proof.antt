@@ -1,10 +1,10 @@
--- `links::offer` meets its contract. Assumes nothing.
+-- `offers::offer` meets its contract. Assumes nothing.
 use mathlib.Core.Path.{_∙_}
 use Rattle.rules.specs.Distance.{between}
-use Rattle.links.proofs.Laws.{offered-full, offered-lost, offered-last, sound-row}
+use Rattle.offers.proofs.Laws.{offered-full, offered-lost, offered-last, sound-row}
 use borrow.Author.Needs.{needs}
-use Rattle.links.proofs.offer.Statement.{statement}
-use Rattle.links.proofs.offer.Tie as tie
+use Rattle.offers.proofs.offer.Statement.{statement}
+use Rattle.offers.proofs.offer.Tie as tie
 
 live-len-requires : tie.Need-live-len-requires
 live-len-requires c κs = search needs

@@ -1,9 +1,9 @@
--- `links::offer_full` meets its contract. Assumes nothing.
+-- `offers::offer_full` meets its contract. Assumes nothing.
 use Rattle.rules.specs.Distance.{between}
-use Rattle.links.proofs.Laws.{pool-below, full-all, full-some}
+use Rattle.offers.proofs.Laws.{pool-below, full-all, full-some}
 use borrow.Author.Needs.{needs}
-use Rattle.links.proofs.offer_full.Statement.{statement}
-use Rattle.links.proofs.offer_full.Tie as tie
+use Rattle.offers.proofs.offer_full.Statement.{statement}
+use Rattle.offers.proofs.offer_full.Tie as tie
 
 gather-requires : tie.Need-gather-requires
 gather-requires c κs = search needs

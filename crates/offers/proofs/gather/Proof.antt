@@ -1,11 +1,11 @@
--- `links::gather` meets its contract. Assumes nothing.
+-- `offers::gather` meets its contract. Assumes nothing.
 use mathlib.Core.Path.{_∙_}
 use lib.ListN.{length-set}
 use native.Mathlib.Omega.{arith}
-use Rattle.links.proofs.Laws.{gathered, gathered-long}
+use Rattle.offers.proofs.Laws.{gathered, gathered-long}
 use borrow.Author.Needs.{needs}
-use Rattle.links.proofs.gather.Statement.{statement}
-use Rattle.links.proofs.gather.Tie as tie
+use Rattle.offers.proofs.gather.Statement.{statement}
+use Rattle.offers.proofs.gather.Tie as tie
 
 copy-words-requires : tie.Need-copy-words-requires
 copy-words-requires c κs = search needs
