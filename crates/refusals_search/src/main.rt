@@ -580,7 +580,12 @@ fn row_10_not_met() {
 
 // Two nodes of two lanes, whose distances to 0,0 have the bits 0x7F7FFFFE and 0x7F7FFFFF.
 fn row_10_at_its_limit(name: &[u8], graph: &[u32]) {
-    let lanes = [18446742974197923840.0f32, 0.0, 18446742974197923840.0, 4503599627370496.0];
+    let lanes = [
+        18446742974197923840.0f32,
+        0.0,
+        18446742974197923840.0,
+        4503599627370496.0,
+    ];
     let roots = [0u32];
     let query = [0.0f32, 0.0];
     let mut c = usual();
