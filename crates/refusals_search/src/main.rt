@@ -335,163 +335,191 @@ fn nan() -> f32 {
     zero / zero
 }
 
-fn squares() {
-    let mut d = usual();
-    d.roots = 1;
-    as_e(b"D", d);
-    as_e(b"E", usual());
-    let mut f = usual();
-    f.k = 1;
-    as_e(b"F", f);
-    let roots = [1u32];
-    let query = [2.0f32];
-    let mut g = usual();
-    g.k = 1;
-    g.roots = 1;
-    on_c(b"G", g, &roots, &query);
+// Calls as square E's, but for one number or the lengths of one pair of slices.
+fn of_dimension(name: &[u8], dimension: usize) {
+    let mut c = usual();
+    c.dimension = dimension;
+    as_e(name, c);
 }
 
-fn square_j() {
-    let mut k = usual();
-    k.k = 64;
-    k.nodes = 64;
-    k.bits = 64;
-    as_e(b"J k 64", k);
-    k.k = 65;
-    k.nodes = 65;
-    k.bits = 65;
-    as_e(b"J k 65", k);
-    let mut n = usual();
-    n.n = 1;
-    n.lanes = 1;
-    n.graph = 2;
-    n.roots = 1;
-    as_e(b"J n 1", n);
-    let roots = [0u32, 0];
+fn of_n(name: &[u8], n: usize) {
+    let mut c = usual();
+    c.n = n;
+    as_e(name, c);
+}
+
+fn of_lanes(name: &[u8], lanes: usize) {
+    let mut c = usual();
+    c.lanes = lanes;
+    as_e(name, c);
+}
+
+fn of_index_size(name: &[u8], index_size: usize) {
+    let mut c = usual();
+    c.index_size = index_size;
+    as_e(name, c);
+}
+
+fn of_k(name: &[u8], k: usize) {
+    let mut c = usual();
+    c.k = k;
+    as_e(name, c);
+}
+
+fn of_graph(name: &[u8], graph: usize) {
+    let mut c = usual();
+    c.graph = graph;
+    as_e(name, c);
+}
+
+fn of_results(name: &[u8], nodes: usize, bits: usize) {
+    let mut c = usual();
+    c.nodes = nodes;
+    c.bits = bits;
+    as_e(name, c);
+}
+
+fn of_scratch(name: &[u8], words: usize, floats: usize) {
+    let mut c = usual();
+    c.words = words;
+    c.floats = floats;
+    as_e(name, c);
+}
+
+fn of_query(name: &[u8], query: usize) {
+    let mut c = usual();
+    c.query = query;
+    as_e(name, c);
+}
+
+fn of_roots(name: &[u8], roots: &[u32]) {
     let query = [7.0f32];
-    on_c(b"J roots 0,0", usual(), &roots, &query);
-    let fine = [0u32, 3];
-    let unfit = [nan()];
-    on_c(b"J query NaN", usual(), &fine, &unfit);
+    let mut c = usual();
+    c.roots = roots.len();
+    on_c(name, c, roots, &query);
+}
+
+fn square_d() {
+    let roots = [0u32];
+    of_roots(b"D", &roots);
+}
+
+fn square_g() {
+    let roots = [1u32];
+    let query = [2.0f32];
+    let mut c = usual();
+    c.k = 1;
+    c.roots = 1;
+    on_c(b"G", c, &roots, &query);
+}
+
+// Square J: k 64, which passes, and 65.
+fn square_j_of_k(name: &[u8], k: usize) {
+    let mut c = usual();
+    c.k = k;
+    c.nodes = k;
+    c.bits = k;
+    as_e(name, c);
+}
+
+fn square_j_of_n() {
+    let mut c = usual();
+    c.n = 1;
+    c.lanes = 1;
+    c.graph = 2;
+    c.roots = 1;
+    as_e(b"J n 1", c);
+}
+
+fn square_j_of_roots() {
+    let roots = [0u32, 0];
+    of_roots(b"J roots 0,0", &roots);
+}
+
+fn square_j_of_nan() {
+    let roots = [0u32, 3];
+    let query = [nan()];
+    on_c(b"J query NaN", usual(), &roots, &query);
+}
+
+fn squares() {
+    square_d();
+    as_e(b"E", usual());
+    of_k(b"F", 1);
+    square_g();
+    square_j_of_k(b"J k 64", 64);
+    square_j_of_k(b"J k 65", 65);
+    square_j_of_n();
+    square_j_of_roots();
+    square_j_of_nan();
 }
 
 fn row_1() {
-    let mut c = usual();
-    c.dimension = 0;
-    as_e(b"dimension 0", c);
-    c.dimension = 65;
-    as_e(b"dimension 65", c);
-    c.dimension = LARGEST;
-    as_e(b"dimension largest", c);
-    c.dimension = 64;
-    as_e(b"dimension 64, 4 lanes", c);
+    of_dimension(b"dimension 0", 0);
+    of_dimension(b"dimension 65", 65);
+    of_dimension(b"dimension largest", LARGEST);
+    of_dimension(b"dimension 64, 4 lanes", 64);
 }
 
 fn row_2() {
-    let mut none = usual();
-    none.n = 0;
-    none.lanes = 0;
-    none.graph = 0;
-    as_e(b"n 0", none);
-    let mut c = usual();
-    c.n = 4097;
-    as_e(b"n 4097", c);
-    c.n = LARGEST;
-    as_e(b"n largest", c);
-    c.n = 4096;
-    as_e(b"n 4096, 4 lanes", c);
+    of_n(b"n 0", 0);
+    of_n(b"n 4097", 4097);
+    of_n(b"n largest", LARGEST);
+    of_n(b"n 4096, 4 lanes", 4096);
 }
 
 fn row_3() {
-    let mut c = usual();
-    c.lanes = 0;
-    as_e(b"lanes 0", c);
-    c.lanes = 3;
-    as_e(b"lanes 3", c);
-    c.lanes = 5;
-    as_e(b"lanes 5", c);
+    of_lanes(b"lanes 0", 0);
+    of_lanes(b"lanes 3", 3);
+    of_lanes(b"lanes 5", 5);
 }
 
 fn row_4() {
-    let mut none = usual();
-    none.index_size = 0;
-    none.graph = 0;
-    as_e(b"index_size 0", none);
-    let mut c = usual();
-    c.index_size = 65;
-    as_e(b"index_size 65", c);
-    c.index_size = LARGEST;
-    as_e(b"index_size largest", c);
-    c.index_size = 64;
-    as_e(b"index_size 64, graph 8", c);
-    let mut k = usual();
-    k.k = 0;
-    as_e(b"k 0", k);
-    k.k = LARGEST;
-    as_e(b"k largest", k);
+    of_index_size(b"index_size 0", 0);
+    of_index_size(b"index_size 65", 65);
+    of_index_size(b"index_size largest", LARGEST);
+    of_index_size(b"index_size 64, graph 8", 64);
+    of_k(b"k 0", 0);
+    of_k(b"k largest", LARGEST);
 }
 
-fn row_6_of_graph() {
-    let mut c = usual();
-    c.graph = 0;
-    as_e(b"graph 0", c);
-    c.graph = 7;
-    as_e(b"graph 7", c);
-    c.graph = 9;
-    as_e(b"graph 9", c);
-}
-
-fn row_6_of_results() {
-    let mut c = usual();
-    c.nodes = 0;
-    as_e(b"result nodes 0", c);
-    c.nodes = 1;
-    as_e(b"result nodes 1", c);
-    c.nodes = 2;
-    c.bits = 0;
-    as_e(b"result bits 0", c);
-    c.bits = 1;
-    as_e(b"result bits 1", c);
-    c.bits = 2;
-    as_e(b"results 2", c);
+fn row_6() {
+    of_graph(b"graph 0", 0);
+    of_graph(b"graph 7", 7);
+    of_graph(b"graph 9", 9);
+    of_results(b"result nodes 0", 0, 2);
+    of_results(b"result nodes 1", 1, 2);
+    of_results(b"result bits 0", 2, 0);
+    of_results(b"result bits 1", 2, 1);
+    of_results(b"results 2", 2, 2);
 }
 
 fn row_6_of_scratch() {
-    let mut c = usual();
-    c.words = 0;
-    as_e(b"words 0", c);
-    c.words = 1039;
-    as_e(b"words 1039", c);
-    c.words = 1041;
-    c.floats = 0;
-    as_e(b"floats 0", c);
-    c.floats = 1039;
-    as_e(b"floats 1039", c);
-    c.floats = 1041;
-    as_e(b"scratch 1041", c);
+    of_scratch(b"words 0", 0, 1040);
+    of_scratch(b"words 1039", 1039, 1040);
+    of_scratch(b"floats 0", 1040, 0);
+    of_scratch(b"floats 1039", 1040, 1039);
+    of_scratch(b"scratch 1041", 1041, 1041);
+}
+
+fn row_7_of_n() {
+    let none = [0u32; 0];
+    of_roots(b"roots none", &none);
+    let first = [4u32];
+    of_roots(b"roots 4", &first);
+    let second = [0u32, 4];
+    of_roots(b"roots 0,4", &second);
 }
 
 fn row_7() {
-    let query = [7.0f32];
-    let mut c = usual();
-    c.roots = 0;
-    as_e(b"roots none", c);
-    let first = [4u32];
-    c.roots = 1;
-    on_c(b"roots 4", c, &first, &query);
-    let second = [0u32, 4];
-    c.roots = 2;
-    on_c(b"roots 0,4", c, &second, &query);
     let largest = [0u32, 3, 4294967295];
-    c.roots = 3;
-    on_c(b"roots 0,3,4294967295", c, &largest, &query);
+    of_roots(b"roots 0,3,4294967295", &largest);
     let again = [0u32, 3, 1, 3];
-    c.roots = 4;
-    on_c(b"roots 0,3,1,3", c, &again, &query);
+    of_roots(b"roots 0,3,1,3", &again);
 }
 
 // 65 nodes in one place, with empty rows.
-fn row_7_of_count() {
+fn row_7_of_count(name: &[u8], count: usize) {
     let lanes = [0.0f32; 65];
     let graph = [65u32; 65];
     let query = [0.0f32];
@@ -505,48 +533,59 @@ fn row_7_of_count() {
     c.k = 1;
     c.words = 1284;
     c.floats = 1284;
-    c.roots = 64;
-    lend(b"roots 64", c, &lanes, &graph, &roots, &query);
-    c.roots = 65;
-    lend(b"roots 65", c, &lanes, &graph, &roots, &query);
+    c.roots = count;
+    lend(name, c, &lanes, &graph, &roots, &query);
 }
 
 fn row_8() {
-    let mut c = usual();
-    c.query = 0;
-    as_e(b"query 0", c);
-    c.query = 2;
-    as_e(b"query 2", c);
+    of_query(b"query 0", 0);
+    of_query(b"query 2", 2);
 }
 
-// Lanes that are unfit with any query, at one node of graph C.
-fn row_10() {
+// A call on graph C with other lanes.
+fn on_lanes(name: &[u8], lanes: &[f32], roots: &[u32], query: &[f32]) {
     let graph = [1u32, 2, 0, 2, 1, 2, 2, 4];
-    let roots = [0u32, 3];
-    let last = [3u32];
-    let near = [7.0f32];
-    let far = [0.0f32];
-    let of_3 = [0.0f32, 1.0, 3.0, nan()];
-    let of_2 = [0.0f32, 1.0, 300000000000000000000.0, 7.0];
-    let of_1 = [0.0f32, nan(), 3.0, 7.0];
-    lend(b"unfit second root", usual(), &of_3, &graph, &roots, &near);
     let mut c = usual();
-    c.roots = 1;
-    lend(b"unfit member", c, &of_2, &graph, &roots, &near);
-    lend(b"unfit member of a member", c, &of_1, &graph, &last, &far);
-    lend(b"unfit and not met", c, &of_3, &graph, &roots, &near);
+    c.roots = roots.len();
+    lend(name, c, lanes, &graph, roots, query);
+}
+
+fn row_10_of_root() {
+    let lanes = [0.0f32, 1.0, 3.0, nan()];
+    let roots = [0u32, 3];
+    let query = [7.0f32];
+    on_lanes(b"unfit second root", &lanes, &roots, &query);
+}
+
+fn row_10_of_member() {
+    let lanes = [0.0f32, 1.0, 300000000000000000000.0, 7.0];
+    let roots = [0u32];
+    let query = [7.0f32];
+    on_lanes(b"unfit member", &lanes, &roots, &query);
+}
+
+fn row_10_of_later_member() {
+    let lanes = [0.0f32, nan(), 3.0, 7.0];
+    let roots = [3u32];
+    let query = [0.0f32];
+    on_lanes(b"unfit member of a member", &lanes, &roots, &query);
+}
+
+fn row_10_not_met() {
+    let lanes = [0.0f32, 1.0, 3.0, nan()];
+    let roots = [0u32];
+    let query = [7.0f32];
+    on_lanes(b"unfit and not met", &lanes, &roots, &query);
 }
 
 // Two nodes of two lanes, whose distances to 0,0 have the bits 0x7F7FFFFE and 0x7F7FFFFF.
-fn row_10_at_its_limit() {
+fn row_10_at_its_limit(name: &[u8], graph: &[u32]) {
     let lanes = [
         18446742974197923840.0f32,
         0.0,
         18446742974197923840.0,
         4503599627370496.0,
     ];
-    let apart = [2u32, 2];
-    let linked = [1u32, 0];
     let roots = [0u32];
     let query = [0.0f32, 0.0];
     let mut c = usual();
@@ -557,57 +596,72 @@ fn row_10_at_its_limit() {
     c.graph = 2;
     c.roots = 1;
     c.query = 2;
-    lend(b"greatest fit distance", c, &lanes, &apart, &roots, &query);
-    lend(b"least unfit distance", c, &lanes, &linked, &roots, &query);
+    lend(name, c, &lanes, graph, &roots, &query);
+}
+
+fn row_10() {
+    row_10_of_root();
+    row_10_of_member();
+    row_10_of_later_member();
+    row_10_not_met();
+    let apart = [2u32, 2];
+    row_10_at_its_limit(b"greatest fit distance", &apart);
+    let linked = [1u32, 0];
+    row_10_at_its_limit(b"least unfit distance", &linked);
+}
+
+// A call whose roots repeat and whose query is NaN: row 7 holds of two roots, row 8 of a query of two lanes, row 10 at the end.
+fn several(
+    name: &[u8],
+    dimension: usize,
+    n: usize,
+    lanes: usize,
+    index_size: usize,
+    k: usize,
+    graph: usize,
+    roots_long: usize,
+    query_long: usize,
+) {
+    let roots = [0u32, 0];
+    let query = [nan(), nan()];
+    let mut c = usual();
+    c.dimension = dimension;
+    c.n = n;
+    c.lanes = lanes;
+    c.index_size = index_size;
+    c.k = k;
+    c.graph = graph;
+    c.roots = roots_long;
+    c.query = query_long;
+    on_c(name, c, &roots, &query);
 }
 
 // Every row holds at first; each call mends the lowest that held.
 fn lowest() {
-    let roots = [0u32, 0];
-    let query = [nan(), nan()];
-    let mut c = usual();
-    c.dimension = 0;
-    c.n = 0;
-    c.lanes = 3;
-    c.index_size = 0;
-    c.k = 65;
-    c.graph = 7;
-    c.words = 1039;
-    c.query = 2;
-    on_c(b"1 and all after", c, &roots, &query);
-    c.dimension = 1;
-    on_c(b"2 and all after", c, &roots, &query);
-    c.n = 4;
-    on_c(b"3 and all after", c, &roots, &query);
-    c.lanes = 4;
-    on_c(b"4 and all after", c, &roots, &query);
-    c.index_size = 2;
-    on_c(b"4 of k and all after", c, &roots, &query);
-    c.k = 2;
-    on_c(b"6 and all after", c, &roots, &query);
-    c.graph = 8;
-    c.words = 1040;
-    on_c(b"7 and all after", c, &roots, &query);
-    c.roots = 1;
-    on_c(b"8 and 10", c, &roots, &query);
-    c.query = 1;
-    on_c(b"10", c, &roots, &query);
+    several(b"1 and all after", 0, 0, 3, 0, 65, 7, 2, 2);
+    several(b"2 and all after", 1, 0, 3, 0, 65, 7, 2, 2);
+    several(b"3 and all after", 1, 4, 3, 0, 65, 7, 2, 2);
+    several(b"4 and all after", 1, 4, 4, 0, 65, 7, 2, 2);
+    several(b"4 of k and all after", 1, 4, 4, 2, 65, 7, 2, 2);
+    several(b"6 and all after", 1, 4, 4, 2, 2, 7, 2, 2);
+    several(b"7 and all after", 1, 4, 4, 2, 2, 8, 2, 2);
+    several(b"8 and 10", 1, 4, 4, 2, 2, 8, 1, 2);
+    several(b"10", 1, 4, 4, 2, 2, 8, 1, 1);
 }
 
 fn main() {
     squares();
-    square_j();
     row_1();
     row_2();
     row_3();
     row_4();
-    row_6_of_graph();
-    row_6_of_results();
+    row_6();
     row_6_of_scratch();
+    row_7_of_n();
     row_7();
-    row_7_of_count();
+    row_7_of_count(b"roots 64", 64);
+    row_7_of_count(b"roots 65", 65);
     row_8();
     row_10();
-    row_10_at_its_limit();
     lowest();
 }
