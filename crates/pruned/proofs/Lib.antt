@@ -1,0 +1,2 @@
+-- `Laws`: the row of one node.
+pub mod Laws

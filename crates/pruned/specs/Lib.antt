@@ -1,0 +1,2 @@
+-- Steps 2 to 4.
+pub mod Pruned
