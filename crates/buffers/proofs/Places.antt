@@ -1,10 +1,10 @@
 -- Areas of a slice, when one is lent and comes back, and when one place is written. Assumes nothing.
-use mathlib.Core.Path.{_≡_, refl, sym, ap, _∙_}
-use mathlib.Core.List.{List, [], _∷_, _++_, append-assoc}
+use mathlib.Core.Path.{_≡_, sym, ap, _∙_}
+use mathlib.Core.List.{List, _++_, append-assoc}
 use Prim.Native.Nat.{ℕ, _+_, _-_, _≤_, _<_}
 use native.Mathlib.Omega.{arith}
-use lib.ListN.{length, take, drop, set, length-append, length-take, length-drop}
-use lib.Seq.{length-take-le, take-all, take-take, take-add, drop-drop, take-append-le, drop-append-le, take-at, drop-at, drop-append-add, take-set-le, drop-set-lt, take-set-lt, drop-set-add}
+use lib.ListN.{length, take, drop, set, length-append, length-drop}
+use lib.Seq.{length-take-le, take-take, take-add, drop-drop, take-append-le, take-at, drop-at, drop-append-add, take-set-le, drop-set-lt, take-set-lt, drop-set-add}
 use borrow.Rule.Slice.PartMut.{putMid, same-len-mid}
 use Rattle.buffers.specs.Area.{area}
 

@@ -1,8 +1,8 @@
 -- The text of the oracle's lists, as its README gives it: bytes, and the numbers that they are. Assumes nothing.
-use mathlib.Core.Bool.{Bool, true, false, cond, _&&_, _||_}
+use mathlib.Core.Bool.{Bool, cond, _&&_, _||_}
 use mathlib.Core.List.{List, [], _∷_}
 use Prim.Native.Nat.{ℕ, zero, suc, _+_, _-_, _*_, _%_, _^_}
-use lib.Dec.{leb, ltb, eqb}
+use lib.Dec.{leb, eqb}
 use lib.ListN.{length, drop}
 use Rattle.cases.specs.declared.Cursor.{Cursor}
 use Rattle.cases.specs.declared.Digits.{Digits}

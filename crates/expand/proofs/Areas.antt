@@ -1,21 +1,21 @@
 -- What each write does to the areas of scratch. Assumes nothing.
 use mathlib.Core.Path.{_≡_, refl, sym, ap, _∙_}
 use mathlib.Core.List.{List, [], _∷_, _++_}
-use Prim.Native.Nat.{ℕ, suc, _+_, _-_, _≤_, _<_}
+use Prim.Native.Nat.{ℕ, _+_, _-_, _≤_, _<_}
 use native.Mathlib.Numerals.{add-one}
 use native.Mathlib.Omega.{arith}
-use lib.ListN.{length, take, drop, set, length-set}
-use lib.Seq.{take-set-lt, take-set-le, take-suc-set}
+use lib.ListN.{length, take, set, length-set}
+use lib.Seq.{take-set-le, take-suc-set}
 use lib.Ieee.{Float}
 use borrow.Rule.Slice.PartMut.{putMid}
 use Rattle.rules.specs.declared.Neighbor.{Neighbor}
-use Rattle.rules.specs.Lists.{entries, insert, nodeOf}
-use Rattle.rules.specs.Search.{Taken, joins}
+use Rattle.rules.specs.Lists.{entries, insert}
+use Rattle.rules.specs.Search.{joins}
 use Rattle.lists.specs.Lists.{Pushed}
-use Rattle.lists.proofs.Slices.{take-entries, length-entries}
+use Rattle.lists.proofs.Slices.{take-entries}
 use Rattle.buffers.specs.Area.{area}
 use Rattle.expand.specs.Areas.{bestAt, foundAt, seenIn, queueIn, bestIn, foundIn, Room, QueueKept, FoundKept}
-use Rattle.buffers.proofs.Places.{length-area, put-length, put-area, put-front, put-low, put-high, set-area, set-low, set-high}
+use Rattle.buffers.proofs.Places.{length-area, put-length, put-area, put-front, put-low, put-high, set-area, set-low}
 
 -- ---- an entry is pushed among those found
 

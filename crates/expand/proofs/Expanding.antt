@@ -1,8 +1,7 @@
 -- One node expanded: what it counts on, and what it leaves. Assumes nothing.
 use mathlib.Core.Path.{_≡_, refl, sym, ap, _∙_, subst}
-use mathlib.Core.Bool.{Bool, true, false, cond}
-use mathlib.Core.List.{List, [], _∷_, _++_}
-use Prim.Native.Nat.{ℕ, zero, suc, _+_, _-_, _*_, _≤_, _<_}
+use mathlib.Core.List.{List, []}
+use Prim.Native.Nat.{ℕ, suc, _+_, _-_, _*_, _≤_, _<_}
 use native.Mathlib.Nat.{suc-mul, mul-le-mul-right, mul-le-mul}
 use native.Mathlib.Omega.{arith}
 use lib.ListN.{length, take, drop, getD, length-take}
@@ -10,20 +9,19 @@ use lib.Seq.{length-take-le, getD-take, getD-drop}
 use lib.Ieee.{Float}
 use Rattle.rules.specs.declared.Distance.{Distance}
 use Rattle.rules.specs.declared.NodeId.{NodeId}
-use Rattle.rules.specs.declared.Neighbor.{Neighbor}
 use Rattle.rules.specs.Loops.{part}
 use Rattle.rules.specs.Lists.{entries, nodesOf}
 use Rattle.rules.specs.Rows.{liveNodes, graphRow}
-use Rattle.rules.specs.Search.{Walk, Going, on, unfitAt, Found, Taken, andThen, visits, takeThese, rowEnded, expand}
+use Rattle.rules.specs.Search.{Walk, Going, on, Found, Taken, andThen, visits, takeThese, rowEnded, expand}
 use Rattle.lists.proofs.Slices.{length-entries}
 use Rattle.expand.specs.declared.Counted.{Counted}
 use Rattle.expand.specs.declared.Counted.the-variants as counted
 use Rattle.buffers.specs.Area.{area}
-use Rattle.expand.specs.Areas.{bestAt, foundAt, seenIn, queueIn, bestIn, foundIn, Room, QueueKept, FoundKept}
+use Rattle.expand.specs.Areas.{bestAt, foundAt, seenIn, queueIn, bestIn, foundIn, Room, QueueKept}
 use Rattle.expand.specs.Steps.{found, foundAfter, Visited, taken, TakenIn}
 use Rattle.expand.specs.Queue.{ones, AllBelow, QueueSound, walkIn, walkAfter, soundAfter, Rows, Expanded}
 use Rattle.buffers.proofs.Places.{length-area}
-use Rattle.expand.proofs.Sound.{ones-most, below-at, below-live, Whenever, Grown, grown-visits, Queued, queued-these}
+use Rattle.expand.proofs.Sound.{ones-most, below-at, below-live, Whenever, Grown, grown-visits, queued-these}
 
 -- ---- the node that is taken, and its row
 

@@ -1,22 +1,22 @@
 -- "no node joins the queue twice": every node that joined was seen for the first time just before, so that n takings are enough. Assumes nothing.
-use mathlib.Core.Path.{_≡_, refl, sym, ap, _∙_}
+use mathlib.Core.Path.{_≡_, refl, _∙_}
 use mathlib.Core.Bool.{Bool, true, false, cond}
 use mathlib.Core.List.{List, [], _∷_, _++_, map}
 use Prim.Native.Nat.{ℕ, zero, suc, _+_, _-_, _≤_, _<_}
 use native.Mathlib.Nat.{le-of-suc-le-suc, not-suc-le-zero}
 use native.Mathlib.Omega.{arith}
-use borrow.Author.Tests.{eqb-true, ltb-true}
+use borrow.Author.Tests.{ltb-true}
 use lib.Dec.{eqb, ltb}
-use lib.ListN.{length, take, drop, getD, set, length-set, length-append, length-take}
+use lib.ListN.{length, getD, set, length-set, length-append}
 use Rattle.rules.specs.declared.Distance.{Distance}
 use Rattle.rules.specs.declared.Distance.the-variants.{Fit, Unfit}
 use Rattle.rules.specs.declared.Neighbor.{Neighbor}
 use Rattle.rules.specs.Distance.{before}
 use Rattle.rules.specs.Lists.{neighbor, nodeOf, nodesOf, insert}
 use Rattle.rules.specs.Rows.{liveNodes}
-use Rattle.rules.specs.Search.{Walk, Going, on, unfitAt, Found, Taken, andThen, worksOut, mark, isSeen, visit, visits, rootsFound, farthest, joins, tooFar, takeThese}
+use Rattle.rules.specs.Search.{Going, on, unfitAt, Found, Taken, andThen, worksOut, mark, isSeen, visit, visits, joins, tooFar, takeThese}
 use Rattle.lists.proofs.Laws.{length-insert}
-use Rattle.expand.specs.Queue.{one, ones, AllBelow}
+use Rattle.expand.specs.Queue.{ones, AllBelow}
 
 -- ---- flags that are set
 

@@ -2,15 +2,14 @@
 use mathlib.Core.Path.{_≡_, refl, sym, ap, _∙_}
 use mathlib.Core.Bool.{Bool, true, false, cond}
 use mathlib.Core.List.{List, [], _∷_, _++_}
-use Prim.Native.Nat.{ℕ, zero, suc, _+_, _-_, _≤_, _<_}
+use Prim.Native.Nat.{ℕ, suc, _+_, _-_, _≤_, _<_}
 use native.Mathlib.Numerals.{add-one}
 use native.Mathlib.Omega.{arith}
 use borrow.Author.Tests.{eq-eqb, ne-eqb, lt-ltb, le-ltb}
-use lib.Dec.{eqb, ltb}
+use lib.Dec.{eqb}
 use lib.ListN.{length, take, drop, getD, set, drop-of-length-le}
 use lib.Seq.{getD-take, getD-drop, drop-cons, take-set-lt}
 use lib.Ieee.{Float, nan, lt}
-use borrow.Rule.Slice.PartMut.{putMid}
 use Rattle.rules.specs.declared.Distance.{Distance}
 use Rattle.rules.specs.declared.Distance.the-variants.{Fit, Unfit}
 use Rattle.rules.specs.declared.NodeId.{NodeId}
@@ -18,16 +17,15 @@ use Rattle.rules.specs.declared.Neighbor.{Neighbor}
 use Rattle.rules.specs.Distance.{zero32}
 use Rattle.rules.specs.Lists.{neighbor, nodeOf, entries, insert}
 use Rattle.rules.specs.Rows.{liveNodes}
-use Rattle.rules.specs.Search.{Going, on, unfitAt, Found, Taken, andThen, worksOut, mark, isSeen, visit, visits, farthest, joins, tooFar, takeThese}
-use Rattle.lists.specs.Lists.{Pushed}
-use Rattle.lists.proofs.Slices.{take-entries, length-entries, getD-entries, drop-entries}
+use Rattle.rules.specs.Search.{Going, on, unfitAt, Found, andThen, worksOut, mark, isSeen, visit, visits, farthest, joins, takeThese}
+use Rattle.lists.proofs.Slices.{length-entries, getD-entries, drop-entries}
 use Rattle.expand.specs.declared.Counted.{Counted}
 use Rattle.expand.specs.declared.Counted.the-variants as counted
 use Rattle.buffers.specs.Area.{area}
 use Rattle.expand.specs.Areas.{bestAt, foundAt, seenIn, queueIn, bestIn, foundIn, Room, QueueKept, FoundKept}
 use Rattle.expand.specs.Steps.{found, foundAfter, entriesAfter, atMost, exactly, WorkedOut, Visited, taken, Joined, TakenIn}
 use Rattle.buffers.proofs.Places.{length-area, set-low}
-use Rattle.expand.proofs.Areas.{FoundPushed, found-pushed, BestPushed, best-pushed, seen-marked, queue-grown, queue-stored, queue-kept, queue-kept-on, found-kept, found-kept-on, room-kept}
+use Rattle.expand.proofs.Areas.{FoundPushed, BestPushed, seen-marked, queue-grown, queue-stored, queue-kept, queue-kept-on, found-kept, found-kept-on, room-kept}
 
 -- ---- a distance is worked out
 

@@ -2,7 +2,7 @@
 use mathlib.Core.Path.{_≡_}
 use mathlib.Core.List.{List}
 use Prim.Native.Nat.{ℕ, _+_, _≤_}
-use lib.ListN.{take, drop, length}
+use lib.ListN.{take, length}
 use lib.Ieee.{Float}
 use Rattle.buffers.specs.Area.{area}
 use Rattle.rules.specs.declared.Neighbor.{Neighbor}

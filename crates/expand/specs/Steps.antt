@@ -1,12 +1,12 @@
 -- What each step of the walk leaves in scratch. Assumes nothing.
 use mathlib.Core.Path.{_≡_}
-use mathlib.Core.List.{List, []}
-use Prim.Native.Nat.{ℕ, _+_, _*_, _≤_, _<_}
+use mathlib.Core.List.{List}
+use Prim.Native.Nat.{ℕ, _+_, _*_, _≤_}
 use lib.ListN.{take, length}
 use lib.Ieee.{Float}
 use Rattle.rules.specs.declared.Distance.{Distance}
 use Rattle.rules.specs.declared.Neighbor.{Neighbor}
-use Rattle.rules.specs.Search.{Walk, Going, on, unfitAt, Found, Taken, andThen, worksOut, visit, visits, joins, takeThese, walk}
+use Rattle.rules.specs.Search.{Going, on, unfitAt, Found, Taken, worksOut, visits, joins, takeThese, walk}
 use Rattle.expand.specs.declared.Counted.{Counted}
 use Rattle.expand.specs.declared.Counted.the-variants.{Count, Unfit}
 use Rattle.expand.specs.Areas.{seenIn, queueIn, bestIn, foundIn, QueueKept, FoundKept}

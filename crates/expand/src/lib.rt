@@ -1,5 +1,4 @@
 // A node of a search's walk expanded, over areas of lent scratch: flags, queue, best set, and the entries found in its row.
-ghost use mathlib.Core.Path.{_≡_};
 ghost use mathlib.Core.List.{[], _∷_};
 ghost use Prim.Native.Nat.{_+_, _≤_, _<_};
 ghost use lib.ListN.{length};

@@ -1,15 +1,14 @@
 -- The row of one node, from its candidates on. Assumes nothing.
-use mathlib.Core.Path.{_≡_, refl, sym, ap, _∙_, subst}
+use mathlib.Core.Path.{_≡_, sym, ap, _∙_, subst}
 use mathlib.Core.Bool.{false}
 use mathlib.Core.List.{List, map}
-use Prim.Native.Nat.{ℕ, _+_, _-_, _*_, _≤_, _<_, min}
+use Prim.Native.Nat.{ℕ, _-_, _<_}
 use native.Mathlib.Omega.{arith}
 use lib.ListN.{length, take}
 use lib.Ieee.{Float}
 use Rattle.rules.specs.declared.Neighbor.{Neighbor}
 use Rattle.rules.specs.Loops.{over}
-use Rattle.rules.specs.Lists.{nodeOf, neighbor, entries, sort}
-use Rattle.rules.specs.Calls.{BuildSizes}
+use Rattle.rules.specs.Lists.{nodeOf, entries, sort}
 use Rattle.rules.specs.Build.{Between, entry, exactList, candidates, occludes, choose, rowOf, pruned}
 use Rattle.lists.specs.All.{All}
 use Rattle.lists.specs.Lists.{SortedIn}

@@ -1,7 +1,7 @@
 -- Steps 2 to 4 of one node, and of every node. Assumes nothing.
 use mathlib.Core.Path.{_≡_}
 use mathlib.Core.List.{List}
-use Prim.Native.Nat.{ℕ, _+_, _-_, _*_, _≤_, _<_, min}
+use Prim.Native.Nat.{ℕ, _-_, _*_, _≤_, _<_, min}
 use lib.ListN.{length, replicate}
 use lib.Ieee.{Float}
 use Rattle.rules.specs.Lists.{entries}

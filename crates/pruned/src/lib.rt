@@ -1,6 +1,6 @@
 // Steps 2 to 4 of build: the candidates of each node, pruned, in its row of slots.
 ghost use mathlib.Core.Path.{_≡_};
-ghost use Prim.Native.Nat.{_*_, _≤_, _<_};
+ghost use Prim.Native.Nat.{_*_, _<_};
 ghost use lib.ListN.{length};
 ghost use Rattle.rules.specs.Distance.{between};
 ghost use Rattle.pruned.specs.Pruned.{sizes, Given, Room, PrunedRow};

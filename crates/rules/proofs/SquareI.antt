@@ -1,6 +1,6 @@
 -- The lanes of the settled squares, and the relay of I computed job by job. Assumes nothing.
 use mathlib.Core.Path.{_≡_, refl, ap, _∙_}
-use mathlib.Core.Bool.{true, false}
+use mathlib.Core.Bool.{true}
 use mathlib.Core.List.{List, [], _∷_, _++_}
 use Prim.Native.Nat.{ℕ}
 use lib.ListN.{replicate}
@@ -13,7 +13,7 @@ use Rattle.rules.specs.Rows.{emptySlot}
 use Rattle.rules.specs.Build.{Between}
 use Rattle.rules.specs.Search.{farthest}
 use Rattle.rules.specs.Offers.{unfilled, look, pop}
-use Rattle.rules.specs.Relay.{Stage, fresh, popped, Job, Relay, isPopped, nextStage, nextList, moveFirst, moveSecond, moved, jobOf, opened}
+use Rattle.rules.specs.Relay.{fresh, popped, Job, Relay, isPopped, nextStage, nextList, moveFirst, moveSecond, moved, jobOf, opened}
 
 -- 0.0, 1.0, 2.0, 3.0, 7.0, 9.0, 49.0 and 0.5
 abbrev pub f0 : Float

@@ -1,21 +1,21 @@
 -- "Settled squares": A to I, computed from the lanes on. Assumes nothing.
 use mathlib.Core.Path.{_≡_, refl, ap}
-use mathlib.Core.Bool.{Bool, true, false}
+use mathlib.Core.Bool.{false}
 use mathlib.Core.List.{List, [], _∷_, map}
 use Prim.Native.Nat.{ℕ}
-use lib.ListN.{length, take, drop, replicate}
-use lib.Ieee.{Float, nan, binary32, ofBits, toBits, add, sub, mul, div, lt, le, eq}
+use lib.ListN.{take, drop, replicate}
+use lib.Ieee.{Float, ofBits, toBits, add, sub, mul, div, lt, le, eq}
 use Rattle.rules.specs.declared.Neighbor.{Neighbor}
 use Rattle.rules.specs.Loops.{turns, through, each, firstFrom, anyOf, has, part, putPart, over}
 use Rattle.rules.specs.Numbers.{outside}
-use Rattle.rules.specs.Distance.{lane, totalOf, fit, answer, distanceOf, unfit, carried, lanesOf, nodesApart, queryApart, between, before, zero32}
+use Rattle.rules.specs.Distance.{lane, totalOf, fit, answer, distanceOf, unfit, carried, lanesOf, nodesApart, queryApart, between, before}
 use Rattle.rules.specs.Lists.{neighbor, insert, insertAll, sort, least, nodesOf, bitsOf}
 use Rattle.rules.specs.Refusals.{noRefusal, decide, row1, row2, row3, row4, row6, row7, row8, badRoot, firstBadRoot}
 use Rattle.rules.specs.Calls.{BuildSizes, searchRows}
 use Rattle.rules.specs.Rows.{liveNodes, graphRow, isEmpty, live, finished}
-use Rattle.rules.specs.Build.{Between, entry, others, exactList, taking, hop, twoHops, candidates, cosine, occludes, keep, choose, rowOf, pruned, prunedSlots, markNext, rewritten, atFull, offered, linkBack, link, linkedSlots, graphFrom, graphOf}
+use Rattle.rules.specs.Build.{entry, others, exactList, taking, hop, twoHops, candidates, cosine, occludes, keep, choose, rowOf, pruned, prunedSlots, markNext, rewritten, atFull, offered, linkBack, link, linkedSlots, graphFrom, graphOf}
 use Rattle.rules.specs.Search.{andThen, worksOut, rootsFound, mark, isSeen, started, visit, visits, farthest, joins, takeThese, rowEnded, expand, walk, searchOf}
-use Rattle.rules.specs.SearchCall.{SearchLent, SearchOutcome, SearchSaid, searchTable, searchZeroed, searchEnds, searchWork, searchObeys, searchRule}
+use Rattle.rules.specs.SearchCall.{SearchOutcome, searchTable, searchZeroed, searchEnds, searchWork, searchObeys, searchRule}
 use Rattle.rules.specs.Descent.{listAt}
 use Rattle.rules.proofs.SquareI.{f0, f1, f2, f7, f9, f49, half, lanes, d, listsI, ends}
 

@@ -1,14 +1,14 @@
 -- Rows and verdicts: which row decides, and what it is that none holds. Assumes nothing.
-use mathlib.Core.Path.{_≡_, refl, sym, ap, _∙_}
-use mathlib.Core.Bool.{Bool, true, false, cond, not, _&&_, _||_}
+use mathlib.Core.Path.{_≡_, refl, _∙_}
+use mathlib.Core.Bool.{Bool, true, false, cond, not, _||_}
 use mathlib.Core.List.{List, [], _∷_, _++_}
-use Prim.Native.Nat.{ℕ, _≤_, _<_}
+use Prim.Native.Nat.{ℕ, _≤_}
 use native.Mathlib.Omega.{arith}
 use borrow.Author.Tests.{ltb-false}
 use lib.Dec.{ltb}
 use Rattle.rules.specs.Loops.{anyOf}
 use Rattle.rules.specs.Numbers.{outside}
-use Rattle.rules.specs.Refusals.{Row, Code, Decision, passed, refused, decide, holds}
+use Rattle.rules.specs.Refusals.{Row, Code, passed, refused, decide, holds}
 
 -- ---- a row in front of others
 

@@ -1,8 +1,8 @@
 -- One iteration and one look, worked by the Rust (cases 88 and 114 of oracle/lists/small.txt), computed. Assumes nothing.
 use mathlib.Core.Path.{_≡_, refl}
-use mathlib.Core.Bool.{Bool, true, false, cond, not, _&&_}
-use mathlib.Core.List.{List, [], _∷_, map}
-use Prim.Native.Nat.{ℕ, _+_, _*_}
+use mathlib.Core.Bool.{Bool, true}
+use mathlib.Core.List.{List, [], _∷_}
+use Prim.Native.Nat.{ℕ}
 use lib.Ieee.{Float, binary32, ofBits, toBits, add, sub, mul, lt, eq}
 use Rattle.rules.specs.declared.Neighbor.{Neighbor}
 use Rattle.rules.specs.Loops.{turns, through, each, part}
@@ -11,8 +11,8 @@ use Rattle.rules.specs.Lists.{neighbor, insert}
 use Rattle.rules.specs.Rows.{emptySlot}
 use Rattle.rules.specs.Search.{farthest}
 use Rattle.rules.specs.Offers.{look, pop, offer}
-use Rattle.rules.specs.Descent.{Context, Descent, Iterated, pair, cross, ownPairs, risingWith, risingPairs, passes, offerTo, update, visit, isVisited, unvisit, meet, meetAll, newOf, oldOf, swap, shuffleFrom, shuffle, drawnAfter, keptNew, keptBack, renew, renewAll, unvisitAll, membersBack, reversedOld, reversedNew, contextOf, renewed, iterated}
-use Rattle.rules.specs.Relay.{Stage, fresh, looked, popped, Job, Relay, isPopped, nextStage, nextList, moveFirst, moveSecond, moved}
+use Rattle.rules.specs.Descent.{Context, Descent, Iterated, cross, ownPairs, risingWith, risingPairs, passes, offerTo, update, visit, isVisited, unvisit, meet, meetAll, newOf, oldOf, swap, shuffleFrom, shuffle, drawnAfter, keptNew, keptBack, renew, renewAll, unvisitAll, membersBack, reversedOld, reversedNew, contextOf, renewed, iterated}
+use Rattle.rules.specs.Relay.{Stage, fresh, looked, popped, Relay, isPopped, nextStage, nextList, moveSecond, moved}
 use Rattle.rules.specs.DescentPlaces.{wordOf, pairWords, bitAt}
 
 abbrev f : ℕ → Float

@@ -3,11 +3,10 @@ use mathlib.Core.List.{List}
 use Prim.Native.Nat.{ℕ}
 use lib.ListN.{length, replicate}
 use lib.Ieee.{Float}
-use Rattle.rules.specs.declared.Answer.{Answer}
 use Rattle.rules.specs.declared.IterateAnswer.{IterateAnswer}
 use Rattle.rules.specs.declared.IterateAnswer.the-variants.{Iterated, Refused}
 use Rattle.rules.specs.Distance.{nodesApart, between, zero32}
-use Rattle.rules.specs.Refusals.{Code, codeOf, noRefusal, saidOf, Row, Decision, passed, refused, decide}
+use Rattle.rules.specs.Refusals.{Code, codeOf, noRefusal, Row, Decision, passed, refused, decide}
 use Rattle.rules.specs.Calls.{scratch, beginRows, iterateRows}
 use Rattle.rules.specs.Descent as descent
 use Rattle.rules.specs.Places.{listFloats}

@@ -1,5 +1,5 @@
 -- Lists that hold k entries, and the four steps of an offer to one: look, push, measure, pop. Assumes nothing.
-use mathlib.Core.Bool.{Bool, true, false, cond, not, _&&_}
+use mathlib.Core.Bool.{Bool, true, cond, not, _&&_}
 use mathlib.Core.List.{List, [], _∷_}
 use Prim.Native.Nat.{ℕ, _-_}
 use lib.Dec.{eqb, ltb}

@@ -1,5 +1,5 @@
 -- The whole outcome of an opening, a move and a close. Assumes nothing.
-use mathlib.Core.Bool.{not, _||_}
+use mathlib.Core.Bool.{_||_}
 use mathlib.Core.List.{List}
 use Prim.Native.Nat.{ℕ}
 use lib.Dec.{leb, ltb}

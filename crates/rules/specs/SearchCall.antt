@@ -1,5 +1,5 @@
 -- The whole outcome of a search: its answer with its counts, and every lent buffer as it is left. Assumes nothing.
-use mathlib.Core.List.{List, []}
+use mathlib.Core.List.{List}
 use Prim.Native.Nat.{ℕ, min}
 use lib.ListN.{length, replicate}
 use lib.Ieee.{Float}

@@ -1,7 +1,7 @@
 -- Every distance of the best set was worked out, so what holds of a fit distance holds of each. Assumes nothing.
-use mathlib.Core.Path.{_≡_, refl, sym, ap, _∙_, subst}
+use mathlib.Core.Path.{_≡_, refl}
 use mathlib.Core.Bool.{Bool, true, false, cond}
-use mathlib.Core.List.{List, [], _∷_, _++_}
+use mathlib.Core.List.{List, [], _∷_}
 use Prim.Native.Nat.{ℕ, zero, suc, _-_, _<_}
 use native.Mathlib.Nat.{le-of-suc-le-suc, not-suc-le-zero}
 use lib.Dec.{ltb}
@@ -12,7 +12,7 @@ use Rattle.rules.specs.declared.Distance.the-variants.{Fit, Unfit}
 use Rattle.rules.specs.declared.Neighbor.{Neighbor}
 use Rattle.rules.specs.Distance.{before}
 use Rattle.rules.specs.Lists.{neighbor, insert}
-use Rattle.rules.specs.Search.{Walk, Going, on, unfitAt, Found, Taken, andThen, worksOut, isSeen, mark, visit, visits, rootsFound, started, joins, tooFar, takeThese, rowEnded, expand, walk, searchOf}
+use Rattle.rules.specs.Search.{Walk, on, Found, Taken, andThen, worksOut, isSeen, mark, visit, visits, rootsFound, started, joins, tooFar, takeThese, rowEnded, expand, walk, searchOf}
 use Rattle.expand.proofs.Sound.{Whenever, whenever-then}
 
 module _ (P : Float → Type 0) where

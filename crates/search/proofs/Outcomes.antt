@@ -1,8 +1,8 @@
 -- The walk's answer: what is written to the results, and what the whole call leaves. Assumes nothing.
 use mathlib.Core.Path.{_≡_, refl, sym, ap, _∙_, subst}
-use mathlib.Core.Bool.{Bool, true, false, not}
+use mathlib.Core.Bool.{not}
 use mathlib.Core.List.{List, [], _∷_, _++_, map, map-map}
-use Prim.Native.Nat.{ℕ, zero, suc, _+_, _-_, _*_, _≤_, _<_, min}
+use Prim.Native.Nat.{ℕ, zero, suc, _+_, _-_, _≤_, _<_, min}
 use native.Mathlib.Omega.{arith}
 use lib.Dec.{T}
 use lib.ListN.{length, take, drop, getD, replicate}
@@ -10,7 +10,6 @@ use lib.Seq.{take-take}
 use lib.Ieee.{Float, nan, binary32, isNan, toBits}
 use Rattle.rules.specs.declared.Answer.{Answer}
 use Rattle.rules.specs.declared.Answer.the-variants as answer
-use Rattle.rules.specs.declared.Distance.{Distance}
 use Rattle.rules.specs.declared.Distance.the-variants.{Fit}
 use Rattle.rules.specs.declared.NodeId.{NodeId}
 use Rattle.rules.specs.declared.Neighbor.{Neighbor}
@@ -20,10 +19,10 @@ use Rattle.rules.specs.declared.SearchAnswer.{SearchAnswer}
 use Rattle.rules.specs.declared.SearchAnswer.the-variants.{Found, Refused}
 use Rattle.rules.specs.Loops.{over}
 use Rattle.rules.specs.Distance.{queryApart, zero32}
-use Rattle.rules.specs.Lists.{neighbor, entries, nodesOf, distancesOf, bitsOf}
+use Rattle.rules.specs.Lists.{neighbor, nodesOf, distancesOf, bitsOf}
 use Rattle.rules.specs.Rows.{graphRow}
-use Rattle.rules.specs.Refusals.{codeOf, noRefusal, Decision, passed, refused, decide, decisionOf}
-use Rattle.rules.specs.Search.{Walk, Going, on, unfitAt, searchOf}
+use Rattle.rules.specs.Refusals.{codeOf, passed, decide, decisionOf}
+use Rattle.rules.specs.Search.{Walk, Going, searchOf}
 use Rattle.rules.specs.SearchCall.{SearchLent, SearchOutcome, searchSaid, searchTable, searchZeroed, searchEnds, searchWork, searchObeys, searchRule, searchLeft}
 use Rattle.rules.proofs.Answers.{same-search}
 use Rattle.metrics.proofs.Fitness.{query-fit, fit-plain}

@@ -1,7 +1,7 @@
 -- Which row of search's table decides, and what it is that none holds. Assumes nothing.
 use mathlib.Core.Path.{_≡_, refl, sym, ap, _∙_}
-use mathlib.Core.Bool.{Bool, true, false, cond, not, _||_}
-use mathlib.Core.List.{List, [], _∷_, _++_}
+use mathlib.Core.Bool.{Bool, true, false, not, _||_}
+use mathlib.Core.List.{List, [], _∷_}
 use Prim.Native.Nat.{ℕ, _+_, _*_, _≤_, _<_}
 use native.Mathlib.Nat.{mul-le-mul-right}
 use native.Mathlib.Omega.{arith}
@@ -11,13 +11,13 @@ use lib.ListN.{length, take, getD}
 use Rattle.rules.specs.declared.Answer.{Answer}
 use Rattle.rules.specs.declared.Answer.the-variants.{Done, Refused}
 use Rattle.rules.specs.declared.Refusal.{Refusal}
-use Rattle.rules.specs.Loops.{anyOf, firstFrom, has}
+use Rattle.rules.specs.Loops.{anyOf, has}
 use Rattle.rules.specs.Numbers.{outside}
-use Rattle.rules.specs.Refusals.{Row, Code, code, codeOf, Decision, passed, refused, decide, decisionOf, holds, notExactly, lessThan, row1, row2, row3, row4, row6, row7, row8, badRoot, firstBadRoot}
-use Rattle.rules.specs.Calls.{Scratch, scratch, searchScratch, searchRows}
+use Rattle.rules.specs.Refusals.{Row, code, codeOf, passed, refused, decide, decisionOf, holds, notExactly, lessThan, row1, row2, row3, row4, row6, row7, row8, badRoot, firstBadRoot}
+use Rattle.rules.specs.Calls.{scratch, searchScratch, searchRows}
 use Rattle.rules.specs.SearchCall.{SearchLent, searchTable}
 use Rattle.rules.proofs.Loops.{first-before}
-use Rattle.rules.proofs.Tables.{goes-on, stops, passes, held, left, decide-append, decide-before, none-of, Within, within}
+use Rattle.rules.proofs.Tables.{goes-on, stops, passes, held, left, decide-append, decide-before, none-of, within}
 use Rattle.walk.specs.Walks.{Roots}
 use Rattle.search.specs.Search.{Ready}
 

@@ -1,11 +1,11 @@
 -- What the entry `search` is lent, and what a search counts on once the table has passed. Assumes nothing.
 use mathlib.Core.Path.{_≡_}
 use mathlib.Core.List.{List}
-use Prim.Native.Nat.{ℕ, _+_, _*_, _≤_, _<_}
+use Prim.Native.Nat.{ℕ, _+_, _*_, _≤_}
 use lib.ListN.{length}
 use lib.Ieee.{Float}
 use Rattle.rules.specs.declared.SearchAnswer.{SearchAnswer}
-use Rattle.rules.specs.SearchCall.{SearchLent, SearchOutcome, searchLeft, searchRule, searchWork}
+use Rattle.rules.specs.SearchCall.{SearchLent, searchLeft, searchRule, searchWork}
 use Rattle.walk.specs.Walks.{Roots}
 
 abbrev pub lent : ℕ → ℕ → List Float → List ℕ → ℕ → List ℕ → List Float → ℕ → List ℕ → List ℕ → List ℕ → List Float → SearchLent

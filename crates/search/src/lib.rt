@@ -4,7 +4,7 @@ ghost use mathlib.Core.Bool.{not};
 ghost use mathlib.Core.List.{[], _∷_};
 ghost use Prim.Native.Nat.{ℕ, _+_, _*_, _≤_, _<_};
 ghost use lib.Dec.{T};
-ghost use lib.ListN.{length, getD, take};
+ghost use lib.ListN.{length, getD};
 ghost use lib.Ieee.{nan, isNan};
 ghost use Rattle.rules.specs.Loops.{anyOf, over};
 ghost use Rattle.rules.specs.Lists.{nodesOf, bitsOf};

@@ -1,18 +1,18 @@
 -- What the tests of the table lean on. Assumes nothing.
-use mathlib.Core.Path.{_≡_, refl, sym, ap, _∙_}
-use mathlib.Core.Bool.{Bool, true, false, not, _||_}
+use mathlib.Core.Path.{_≡_, sym, _∙_}
+use mathlib.Core.Bool.{true, false}
 use mathlib.Core.List.{List, [], _∷_}
 use Prim.Native.Nat.{ℕ, _+_, _*_, _≤_, _<_}
 use native.Mathlib.Nat.{mul-le-mul}
 use native.Mathlib.Omega.{arith}
 use borrow.Author.Tests.{le-leb, lt-leb, eq-eqb, ne-eqb, lt-ltb, le-ltb}
-use lib.Dec.{leb, eqb, ltb}
+use lib.Dec.{eqb}
 use lib.ListN.{length, take, drop, getD}
 use lib.Seq.{length-take-le, getD-take}
 use Rattle.rules.specs.Loops.{has, anyOf}
 use Rattle.rules.specs.Numbers.{outside}
 use Rattle.rules.specs.Refusals.{Row, code, decide, refused, passed, row1, row2, row3, row7, badRoot, firstBadRoot}
-use Rattle.rules.proofs.Loops.{any-here, any-turn, any-end, has-any}
+use Rattle.rules.proofs.Loops.{any-here, any-turn, any-end}
 use Rattle.rules.proofs.Tables.{within}
 
 -- ---- a number among the first of others: at place i

@@ -1,22 +1,21 @@
 -- "no node joins the queue twice": a walk with a limit of n takings ends with an empty queue, so that the limit is none. Assumes nothing.
-use mathlib.Core.Path.{_≡_, refl, sym, ap, _∙_}
+use mathlib.Core.Path.{_≡_, refl, _∙_}
 use mathlib.Core.Bool.{Bool, true, false, cond}
 use mathlib.Core.List.{List, [], _∷_}
-use Prim.Native.Nat.{ℕ, zero, suc, _+_, _≤_, _<_, min}
+use Prim.Native.Nat.{ℕ, zero, suc, _+_, _≤_, _<_}
 use native.Mathlib.Omega.{arith}
 use borrow.Author.Tests.{ltb-true, ltb-false}
 use lib.Dec.{ltb}
 use lib.ListN.{length, take, getD, replicate, length-replicate, length-map, length-take}
 use Rattle.rules.specs.declared.Distance.{Distance}
 use Rattle.rules.specs.declared.Neighbor.{Neighbor}
-use Rattle.rules.specs.Loops.{through}
 use Rattle.rules.specs.Lists.{nodeOf, nodesOf}
 use Rattle.rules.specs.Rows.{graphRow}
-use Rattle.rules.specs.Search.{Walk, Going, on, unfitAt, Found, Taken, andThen, mark, visits, rootsFound, started, joins, tooFar, takeThese, rowEnded, expand, walk, searchOf}
+use Rattle.rules.specs.Search.{Walk, on, Found, Taken, andThen, visits, rootsFound, started, joins, tooFar, takeThese, rowEnded, expand, walk, searchOf}
 use Rattle.expand.specs.Queue.{ones, AllBelow}
-use Rattle.expand.proofs.Sound.{ones-most, below-live, Whenever, whenever-then, Grown, grown-visits, Queued, queued-these, joined-long}
+use Rattle.expand.proofs.Sound.{ones-most, below-live, Whenever, whenever-then, Grown, grown-visits, queued-these, joined-long}
 use Rattle.walk.specs.Walks.{Roots}
-use Rattle.walk.proofs.Marks.{marks-long, marks-count, found-below, found-long, all-below}
+use Rattle.walk.proofs.Marks.{marks-long, marks-count, found-long, all-below}
 use Rattle.walk.proofs.Walking.{nothing-below, cut-below}
 
 -- as many nodes joined as are seen at most, all below n

@@ -1,22 +1,21 @@
 -- As many flags are set as there are roots, since no root repeats an earlier one. Assumes nothing.
 use mathlib.Core.Path.{_≡_, refl, sym, ap, _∙_}
-use mathlib.Core.Bool.{Bool, true, false, cond, _||_}
-use mathlib.Core.List.{List, [], _∷_, _++_}
+use mathlib.Core.Bool.{Bool, true, false, _||_}
+use mathlib.Core.List.{List, [], _∷_}
 use Prim.Native.Nat.{ℕ, zero, suc, _+_, _≤_, _<_}
-use native.Mathlib.Nat.{le-of-suc-le-suc, not-suc-le-zero}
 use native.Mathlib.Omega.{arith}
 use borrow.Author.Tests.{eqb-true, eqb-false}
-use lib.Dec.{eqb, ltb}
+use lib.Dec.{eqb}
 use lib.ListN.{length, take, getD, set, replicate, length-replicate, getD-replicate}
 use lib.Seq.{take-suc, take-length, getD-set-same, getD-set-other}
 use Rattle.rules.specs.declared.Distance.{Distance}
 use Rattle.rules.specs.declared.Neighbor.{Neighbor}
 use Rattle.rules.specs.Loops.{through, has}
-use Rattle.rules.specs.Lists.{neighbor, nodesOf}
-use Rattle.rules.specs.Search.{Going, on, unfitAt, andThen, worksOut, mark, isSeen, rootsFound}
+use Rattle.rules.specs.Lists.{nodesOf}
+use Rattle.rules.specs.Search.{Going, on, unfitAt, worksOut, mark, isSeen, rootsFound}
 use Rattle.rules.proofs.Loops.{through-append}
 use Rattle.expand.specs.Queue.{ones, AllBelow}
-use Rattle.expand.proofs.Sound.{ones-most, ones-mark, mark-long, below-insert, Whenever, whenever-then, pushes-below, pushes-both}
+use Rattle.expand.proofs.Sound.{ones-most, ones-mark, mark-long, Whenever, whenever-then, pushes-below, pushes-both}
 use Rattle.walk.specs.Walks.{Roots}
 
 seen-mark : (v w : ℕ) (xs : List ℕ) → v < length xs → isSeen v (mark w xs) ≡ (eqb v w || isSeen v xs)

@@ -1,7 +1,7 @@
 -- The steps of the walk's start: roots worked out, and the first of them entered. Assumes nothing.
 use mathlib.Core.Path.{_≡_, refl, sym, ap, _∙_}
 use mathlib.Core.List.{List, [], _∷_, _++_}
-use Prim.Native.Nat.{ℕ, suc, _+_, _-_, _≤_, _<_}
+use Prim.Native.Nat.{ℕ, _+_, _-_, _≤_, _<_}
 use native.Mathlib.Numerals.{add-one}
 use native.Mathlib.Omega.{arith}
 use lib.ListN.{length, take, drop, getD, set, drop-of-length-le, length-set}
@@ -10,13 +10,13 @@ use lib.Ieee.{Float, nan}
 use Rattle.rules.specs.declared.Distance.{Distance}
 use Rattle.rules.specs.declared.NodeId.{NodeId}
 use Rattle.rules.specs.declared.Neighbor.{Neighbor}
-use Rattle.rules.specs.Lists.{neighbor, entries, nodesOf}
-use Rattle.rules.specs.Search.{Going, on, unfitAt, andThen, worksOut, rootsFound}
+use Rattle.rules.specs.Lists.{neighbor, entries}
+use Rattle.rules.specs.Search.{Going, andThen, worksOut, rootsFound}
 use Rattle.lists.proofs.Slices.{entries-suc, entries-same, nodesOf-entries}
 use Rattle.expand.specs.declared.Counted.{Counted}
 use Rattle.expand.specs.declared.Counted.the-variants as counted
 use Rattle.buffers.specs.Area.{area}
-use Rattle.expand.specs.Areas.{bestAt, foundAt, seenIn, queueIn, bestIn, foundIn, Room, QueueKept, FoundKept}
+use Rattle.expand.specs.Areas.{bestAt, foundAt, queueIn, bestIn, foundIn, Room, FoundKept}
 use Rattle.expand.specs.Steps.{entriesAfter, exactly, WorkedOut}
 use Rattle.buffers.proofs.Places.{length-area, set-area, set-low, set-high}
 use Rattle.expand.proofs.Areas.{queue-grown, queue-stored, found-kept, found-kept-on}

@@ -1,11 +1,9 @@
 -- The walk's start put together, and the whole walk. Assumes nothing.
 use mathlib.Core.Path.{_≡_, refl, sym, ap, _∙_, subst}
-use mathlib.Core.Bool.{Bool, true, false, cond}
 use mathlib.Core.List.{List, [], _∷_, _++_}
 use Prim.Native.Nat.{ℕ, zero, suc, _+_, _-_, _≤_, _<_, min}
 use native.Mathlib.Omega.{arith}
 use borrow.Author.Tests.{lt-ltb, le-ltb}
-use lib.Dec.{ltb}
 use lib.ListN.{length, take, drop, replicate, length-replicate, length-append, length-drop}
 use lib.Seq.{length-take-le, take-at, drop-at, drop-drop}
 use lib.Ieee.{Float}
@@ -15,13 +13,13 @@ use Rattle.rules.specs.declared.Neighbor.{Neighbor}
 use Rattle.rules.specs.Loops.{through}
 use Rattle.rules.specs.Lists.{entries, nodesOf}
 use Rattle.rules.specs.Rows.{graphRow}
-use Rattle.rules.specs.Search.{Walk, Going, on, unfitAt, andThen, mark, rootsFound, started, expand, walk, searchOf}
+use Rattle.rules.specs.Search.{Walk, Going, on, andThen, mark, rootsFound, started, expand, walk, searchOf}
 use Rattle.lists.proofs.Laws.{take-min}
 use Rattle.lists.proofs.Slices.{take-entries, length-entries}
 use Rattle.expand.specs.declared.Counted.{Counted}
 use Rattle.expand.specs.declared.Counted.the-variants as counted
 use Rattle.buffers.specs.Area.{area}
-use Rattle.expand.specs.Areas.{bestAt, foundAt, seenIn, queueIn, bestIn, foundIn, Room}
+use Rattle.expand.specs.Areas.{foundAt, seenIn, queueIn, bestIn, foundIn, Room}
 use Rattle.expand.specs.Steps.{entriesAfter, exactly}
 use Rattle.expand.specs.Queue.{ones, AllBelow, QueueSound, walkIn, walkAfter, soundAfter, Expanded}
 use Rattle.buffers.proofs.Places.{length-area}

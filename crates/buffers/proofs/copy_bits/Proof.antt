@@ -1,9 +1,9 @@
 -- `buffers::copy_bits` meets its contract: the first `i` places are copied. Assumes nothing.
-use mathlib.Core.Path.{_≡_, refl, ap, _∙_}
+use mathlib.Core.Path.{_≡_, ap, _∙_}
 use mathlib.Core.List.{map}
-use Prim.Native.Nat.{ℕ, _+_, _-_, _≤_, _<_}
+use Prim.Native.Nat.{ℕ, _-_, _≤_}
 use native.Mathlib.Omega.{arith}
-use lib.ListN.{length, length-map, List·getD-map}
+use lib.ListN.{length-map, List·getD-map}
 use lib.Ieee.{nan, binary32, toBits}
 use Rattle.rules.specs.Loops.{over}
 use Rattle.buffers.proofs.Laws.{Written, written-none, written-more}

@@ -1,6 +1,6 @@
 -- `buffers::copy_floats` meets its contract: the first `i` places are copied. Assumes nothing.
 use mathlib.Core.Path.{_≡_, refl, ap, _∙_}
-use Prim.Native.Nat.{ℕ, _+_, _-_, _≤_, _<_}
+use Prim.Native.Nat.{ℕ, _-_, _≤_}
 use native.Mathlib.Omega.{arith}
 use lib.Ieee.{nan}
 use Rattle.rules.specs.Loops.{over}

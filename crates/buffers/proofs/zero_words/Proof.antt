@@ -1,5 +1,5 @@
 -- `buffers::zero_words` meets its contract: the first `i` places are zero. Assumes nothing.
-use Prim.Native.Nat.{ℕ, _+_, _-_, _≤_, _<_}
+use Prim.Native.Nat.{_-_}
 use native.Mathlib.Omega.{arith}
 use lib.ListN.{length, replicate}
 use Rattle.buffers.proofs.Laws.{Written, written-none, filled-more, filled-end}

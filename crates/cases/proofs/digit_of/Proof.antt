@@ -1,6 +1,5 @@
 -- `cases::digit_of` meets its contract. Assumes nothing.
-use mathlib.Core.Path.{_≡_, sym, _∙_}
-use mathlib.Core.Bool.{true}
+use mathlib.Core.Path.{sym, _∙_}
 use native.Mathlib.Omega.{arith}
 use Rattle.cases.proofs.Laws.{within-bounds}
 use Rattle.cases.specs.Text.{within, digitOf}

@@ -1,7 +1,6 @@
 -- `cases::faulted` meets its contract. Assumes nothing.
 use borrow.Author.Tests.{eq-eqb, ne-eqb}
 use Rattle.cases.specs.Text.{faulted}
-use borrow.Author.Needs.{needs}
 use Rattle.cases.proofs.faulted.Statement.{statement}
 use Rattle.cases.proofs.faulted.Tie as tie
 

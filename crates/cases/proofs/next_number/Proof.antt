@@ -1,5 +1,4 @@
 -- `cases::next_number` meets its contract: each way out is a law. Assumes nothing.
-use mathlib.Core.Path.{_≡_, refl, sym, ap, _∙_}
 use Rattle.cases.proofs.Laws.{token-end, token-strange, token-large, token-number}
 use Rattle.cases.specs.Text.{counted, ended}
 use borrow.Author.Needs.{needs}

@@ -1,7 +1,6 @@
 -- `cases::within` meets its contract: each way out rewrites with its test. Assumes nothing.
 use borrow.Author.Tests.{lt-leb, le-leb}
 use Rattle.cases.specs.Text.{within}
-use borrow.Author.Needs.{needs}
 use Rattle.cases.proofs.within.Statement.{statement}
 use Rattle.cases.proofs.within.Tie as tie
 

@@ -1,9 +1,8 @@
 -- `expand::expand` meets its contract. Assumes nothing.
-use mathlib.Core.Path.{_≡_, refl, ap, _∙_}
-use Prim.Native.Nat.{ℕ, _+_, _-_, _*_, _≤_, _<_}
+use mathlib.Core.Path.{_∙_}
+use Prim.Native.Nat.{_+_, _-_}
 use native.Mathlib.Omega.{arith}
 use denote.Ref.{now}
-use Rattle.expand.specs.Steps.{Visited}
 use Rattle.expand.proofs.Areas.{room-kept}
 use Rattle.expand.proofs.Expanding.{Next, next, row-is, row-short, found-sound, expanded, expanded-unfit}
 use borrow.Author.Needs.{needs}

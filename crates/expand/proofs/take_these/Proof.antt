@@ -1,7 +1,5 @@
 -- `expand::take_these` meets its contract: what is left of the entries gives the whole. Assumes nothing.
-use Prim.Native.Nat.{ℕ, _+_, _-_, _≤_, _<_}
-use native.Mathlib.Omega.{arith}
-use lib.ListN.{length}
+use Prim.Native.Nat.{_-_}
 use Rattle.expand.proofs.Areas.{room-kept}
 use Rattle.expand.proofs.Steps.{Taking, taking-none, taking-stop, taking-more, taking-end}
 use borrow.Author.Needs.{needs}

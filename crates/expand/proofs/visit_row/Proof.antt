@@ -1,5 +1,5 @@
 -- `expand::visit_row` meets its contract: what is left of the row gives the whole. Assumes nothing.
-use Prim.Native.Nat.{ℕ, _+_, _-_, _≤_, _<_}
+use Prim.Native.Nat.{_-_}
 use native.Mathlib.Omega.{arith}
 use lib.ListN.{length}
 use Rattle.rules.specs.Distance.{queryApart}

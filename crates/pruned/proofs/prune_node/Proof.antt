@@ -1,8 +1,7 @@
 -- `pruned::prune_node` meets its contract: each step by its own. Assumes nothing.
-use mathlib.Core.Path.{_≡_, sym, ap, _∙_, subst}
-use Prim.Native.Nat.{ℕ, _+_, _-_, _*_, _≤_, _<_}
+use mathlib.Core.Path.{sym, _∙_, subst}
+use Prim.Native.Nat.{ℕ, _-_, _<_}
 use native.Mathlib.Omega.{arith}
-use lib.ListN.{length}
 use Rattle.lists.specs.All.{All}
 use Rattle.hops.specs.Hops.{Linked}
 use Rattle.pruned.proofs.Laws.{linked, candidates-below, ready, row-is}

@@ -1,10 +1,10 @@
 -- `search::give` meets its contract. Assumes nothing.
-use mathlib.Core.Path.{_≡_, sym, ap, _∙_, subst}
+use mathlib.Core.Path.{sym, _∙_, subst}
 use mathlib.Core.Bool.{not}
-use Prim.Native.Nat.{ℕ, _+_, _-_, _*_, _≤_, _<_}
+use Prim.Native.Nat.{ℕ, _+_, _-_}
 use native.Mathlib.Omega.{arith}
 use lib.Dec.{T}
-use lib.ListN.{length, take, drop, getD, length-take, length-drop}
+use lib.ListN.{take, drop, getD, length-take, length-drop}
 use lib.Ieee.{nan, isNan}
 use denote.Ref.{now}
 use Rattle.search.proofs.Outcomes.{cut, nodes-given, bits-given}

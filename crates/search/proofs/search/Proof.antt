@@ -1,5 +1,4 @@
 -- `search::search` meets its contract: a row that holds, or the work. Assumes nothing.
-use mathlib.Core.Path.{_≡_, _∙_}
 use denote.Ref.{now}
 use Rattle.rules.specs.SearchCall.{SearchLent, searchTable}
 use Rattle.search.specs.Search.{lent}

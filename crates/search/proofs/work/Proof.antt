@@ -1,8 +1,6 @@
 -- `search::work` meets its contract. Assumes nothing.
-use mathlib.Core.Path.{_≡_, _∙_}
-use Prim.Native.Nat.{ℕ, _+_, _-_, _*_, _≤_, _<_}
+use Prim.Native.Nat.{_-_}
 use native.Mathlib.Omega.{arith}
-use Rattle.expand.specs.Areas.{Room}
 use Rattle.expand.proofs.Areas.{room-kept}
 use Rattle.search.proofs.Outcomes.{ready-room, best-numbers, worked-unfit, worked-found}
 use borrow.Author.Needs.{needs}

@@ -1,5 +1,5 @@
 -- `table::game` meets its contract: row by row. Assumes nothing.
-use mathlib.Core.Path.{_≡_, sym, ap, _∙_}
+use mathlib.Core.Path.{sym, _∙_}
 use native.Mathlib.Omega.{arith}
 use Rattle.rules.specs.Refusals.{decisionOf, codeOf}
 use Rattle.table.proofs.Laws.{lanes-fit, game-dimension, game-nodes, game-lanes, game-passed}

@@ -1,9 +1,8 @@
 -- `table::has` meets its contract. Assumes nothing.
-use mathlib.Core.Path.{_≡_, refl, sym, ap, _∙_}
-use Prim.Native.Nat.{ℕ, _+_, _-_, _≤_, _<_}
-use native.Mathlib.Omega.{arith}
+use mathlib.Core.Path.{_≡_}
+use Prim.Native.Nat.{_-_, _≤_}
 use lib.Dec.{eqb}
-use lib.ListN.{length, take, drop}
+use lib.ListN.{take, drop}
 use Rattle.rules.specs.Loops.{has, anyOf}
 use Rattle.rules.proofs.Loops.{has-any}
 use Rattle.table.proofs.Laws.{has-here, has-turn, has-end}

@@ -1,8 +1,6 @@
 -- `table::outside` meets its contract. Assumes nothing.
-use mathlib.Core.Path.{refl}
 use borrow.Author.Tests.{lt-ltb, le-ltb}
 use Rattle.rules.specs.Numbers.{outside}
-use borrow.Author.Needs.{needs}
 use Rattle.table.proofs.outside.Statement.{statement}
 use Rattle.table.proofs.outside.Tie as tie
 

@@ -1,5 +1,5 @@
 -- `table::roots` meets its contract. Assumes nothing.
-use mathlib.Core.Path.{_≡_, sym, _∙_}
+use mathlib.Core.Path.{sym, _∙_}
 use Rattle.rules.specs.Refusals.{decisionOf, codeOf}
 use Rattle.table.proofs.Laws.{few-roots, bad-root, good-roots}
 use borrow.Author.Needs.{needs}

@@ -1,11 +1,9 @@
 -- `taught::exact_all` meets its contract: the lists before the q-th stand. Assumes nothing.
-use mathlib.Core.Path.{_≡_, refl, sym, _∙_}
-use Prim.Native.Nat.{ℕ, _+_, _-_, _*_, _≤_, _<_}
+use mathlib.Core.Path.{_≡_, refl, sym}
+use Prim.Native.Nat.{ℕ, _+_, _-_, _*_, _≤_}
 use native.Mathlib.Omega.{arith}
 use lib.ListN.{length, length-take, length-drop}
-use denote.Ref.{now}
 use Rattle.rules.specs.Distance.{between}
-use Rattle.buffers.proofs.Places.{length-area}
 use Rattle.taught.proofs.Laws.{Where, where-is, Teaching, teaching-more, teaching-end}
 use borrow.Author.Needs.{needs}
 use Rattle.taught.proofs.exact_all.Statement.{statement}

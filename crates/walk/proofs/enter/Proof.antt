@@ -1,8 +1,8 @@
 -- `walk::enter` meets its contract: the first `i` have entered. Assumes nothing.
 use mathlib.Core.Path.{_≡_}
-use Prim.Native.Nat.{ℕ, _+_, _-_, _≤_, _<_}
+use Prim.Native.Nat.{_-_, _≤_}
 use native.Mathlib.Omega.{arith}
-use lib.ListN.{length, length-set}
+use lib.ListN.{length-set}
 use Rattle.walk.proofs.Starts.{Entering, entering-none, entering-more, entering-end}
 use borrow.Author.Needs.{needs}
 use Rattle.walk.proofs.enter.Statement.{statement}

@@ -1,6 +1,6 @@
 -- `walk::go_on` meets its contract: what is left of the walk gives the whole. Assumes nothing.
 use mathlib.Core.Path.{_∙_}
-use Prim.Native.Nat.{ℕ, _+_, _-_, _≤_, _<_}
+use Prim.Native.Nat.{_-_}
 use native.Mathlib.Omega.{arith}
 use Rattle.rules.specs.Distance.{queryApart}
 use Rattle.rules.specs.Rows.{graphRow}
