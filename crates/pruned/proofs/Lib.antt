@@ -1,2 +1,3 @@
--- `Laws`: the row of one node.
+-- `Laws`: the row of one node. `All`: the rows of all nodes.
 pub mod Laws
+pub mod All

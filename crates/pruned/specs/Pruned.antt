@@ -6,7 +6,7 @@ use lib.ListN.{length, replicate}
 use lib.Ieee.{Float}
 use Rattle.rules.specs.Lists.{entries}
 use Rattle.rules.specs.Calls.{BuildSizes}
-use Rattle.rules.specs.Build.{Between, exactList, pruned}
+use Rattle.rules.specs.Build.{Between, exactList, pruned, prunedSlots}
 use Rattle.hops.specs.Hops.{listOf}
 
 abbrev pub sizes : ℕ → ℕ → ℕ → Float → BuildSizes
@@ -33,3 +33,9 @@ pub record PrunedRow (d : Between) (n : ℕ) (p : BuildSizes) (q : ℕ) (seen se
   pub flags : seen' ≡ seen
   pub nodes-long : length nodes' ≡ 320
   pub dists-long : length dists' ≡ 320
+
+-- the rows of all nodes, one behind the other
+pub record PrunedAll (d : Between) (n : ℕ) (p : BuildSizes) (ns : List ℕ) (ds : List Float) (ns' : List ℕ) (ds' : List Float) : Type 0 where
+  pub slots : entries (n * p .index-size) ns' ds' ≡ prunedSlots d n p
+  pub nodes-long : length ns' ≡ length ns
+  pub dists-long : length ds' ≡ length ds
