@@ -1,8 +1,8 @@
--- `refusals_search::results` is safe and ends. Assumes nothing.
+-- `refusals_search::call::results` is safe and ends. Assumes nothing.
 use Prim.Native.Nat.{_-_}
 use borrow.Author.Needs.{needs}
-use Rattle.refusals_search.proofs.results.Statement.{statement}
-use Rattle.refusals_search.proofs.results.Tie as tie
+use Rattle.refusals_search.proofs.call.results.Statement.{statement}
+use Rattle.refusals_search.proofs.call.results.Tie as tie
 
 abbrev Inv-loop : tie.InvT-loop
 Inv-loop m nodes bits i₀ i = Unit {0}

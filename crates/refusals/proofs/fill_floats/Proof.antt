@@ -1,11 +1,11 @@
--- `refusals_search::fill_floats` is safe and ends. Assumes nothing.
+-- `refusals::fill_floats` is safe and ends. Assumes nothing.
 use mathlib.Core.Path.{_≡_, refl}
 use Prim.Native.Nat.{_-_}
 use native.Mathlib.Omega.{arith}
 use lib.ListN.{length, length-set}
 use borrow.Author.Needs.{needs}
-use Rattle.refusals_search.proofs.fill_floats.Statement.{statement}
-use Rattle.refusals_search.proofs.fill_floats.Tie as tie
+use Rattle.refusals.proofs.fill_floats.Statement.{statement}
+use Rattle.refusals.proofs.fill_floats.Tie as tie
 
 abbrev Inv-loop : tie.InvT-loop
 Inv-loop xs₀ i₀ v₀ xs i v = length xs ≡ length xs₀

@@ -1,9 +1,9 @@
--- `refusals_search::kept_floats` is safe and ends. Assumes nothing.
+-- `refusals::kept_floats` is safe and ends. Assumes nothing.
 use Prim.Native.Nat.{_-_}
 use lib.ListN.{length}
 use borrow.Author.Needs.{needs}
-use Rattle.refusals_search.proofs.kept_floats.Statement.{statement}
-use Rattle.refusals_search.proofs.kept_floats.Tie as tie
+use Rattle.refusals.proofs.kept_floats.Statement.{statement}
+use Rattle.refusals.proofs.kept_floats.Tie as tie
 
 abbrev Inv-loop : tie.InvT-loop
 Inv-loop xs i₀ v₀ i v = Unit {0}

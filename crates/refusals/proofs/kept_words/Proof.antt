@@ -1,9 +1,9 @@
--- `refusals_search::kept_words` is safe and ends. Assumes nothing.
+-- `refusals::kept_words` is safe and ends. Assumes nothing.
 use Prim.Native.Nat.{_-_}
 use lib.ListN.{length}
 use borrow.Author.Needs.{needs}
-use Rattle.refusals_search.proofs.kept_words.Statement.{statement}
-use Rattle.refusals_search.proofs.kept_words.Tie as tie
+use Rattle.refusals.proofs.kept_words.Statement.{statement}
+use Rattle.refusals.proofs.kept_words.Tie as tie
 
 abbrev Inv-loop : tie.InvT-loop
 Inv-loop xs from first i₀ v₀ i v = Unit {0}
