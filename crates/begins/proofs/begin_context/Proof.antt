@@ -23,7 +23,7 @@ part-draw-members-end : tie.Need-part-draw-members-end
 part-draw-members-end c = search needs
 
 draw-members-requires : tie.Need-draw-members-requires
-draw-members-requires c κs = let p = c .before .before .before .pre in let d = drawn-at _ _ _ _ (p .4) (p .3) (p .1) (p .5) in let long = p .0 in (simp (length-take, length-drop) (omega arith), p .1, p .2, p .3, d .first)
+draw-members-requires c κs = let p = c .before .before .before .pre in let d = drawn-at _ _ _ _ (p .4) (p .3) (p .1) (p .5) in let long = p .0 in (simp (length-take, length-drop) (omega arith), p .1, p .2, p .3, (let f = d .first in omega arith))
 
 sub-zero-words : tie.Need-sub-zero-words
 sub-zero-words c = search needs
@@ -50,7 +50,7 @@ add-draw-members : tie.Need-add-draw-members
 add-draw-members c = let p = c .before .before .before .before .before .before .before .before .before .before .before .pre in let d = drawn-at _ _ _ _ (p .4) (p .3) (p .1) (p .5) in let few = p .1 in omega arith
 
 draw-members-requires-2 : tie.Need-draw-members-requires-2
-draw-members-requires-2 c κs = let p = c .before .before .before .before .before .before .before .before .before .before .before .pre in let d = drawn-at _ _ _ _ (p .4) (p .3) (p .1) (p .5) in (simp (length-take, length-drop) (search needs), p .1, p .2, p .3, d .second)
+draw-members-requires-2 c κs = let p = c .before .before .before .before .before .before .before .before .before .before .before .pre in let d = drawn-at _ _ _ _ (p .4) (p .3) (p .1) (p .5) in (simp (length-take, length-drop) (search needs), p .1, p .2, p .3, (let f = d .second in omega arith))
 
 sub-zero-words-2 : tie.Need-sub-zero-words-2
 sub-zero-words-2 c = search needs
