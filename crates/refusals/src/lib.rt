@@ -147,6 +147,32 @@ pub fn put_refusal(r: Refusal) {
     put(b",", code.second);
 }
 
+fn put_place(i: usize, column: usize, node: u32) {
+    if i == 0 {
+        put(b": ", node as usize);
+        return;
+    }
+    if column == 0 {
+        put(b" / ", node as usize);
+        return;
+    }
+    put(b",", node as usize);
+}
+
+/// Prints a graph as the settled squares have it: every place of a row, and row after row.
+pub fn put_graph(graph: &[u32], index_size: usize) {
+    let mut i: usize = 0;
+    let mut column: usize = 0;
+    while i < graph.len() {
+        put_place(i, column, graph[i]);
+        column = std::num::wrapping_add_usize(column, 1);
+        if column == index_size {
+            column = 0;
+        }
+        i += 1;
+    }
+}
+
 /// Ends a line by what became of the lent places.
 pub fn put_left(l: Left) {
     match l {
