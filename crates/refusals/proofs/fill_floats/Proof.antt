@@ -8,10 +8,10 @@ use Rattle.refusals.proofs.fill_floats.Statement.{statement}
 use Rattle.refusals.proofs.fill_floats.Tie as tie
 
 abbrev Inv-loop : tie.InvT-loop
-Inv-loop xs₀ i₀ v₀ xs i v = length xs ≡ length xs₀
+Inv-loop xs₀ first i₀ v₀ xs i v = length xs ≡ length xs₀
 
 abbrev μ-loop : tie.MeasureT-loop
-μ-loop xs₀ i₀ v₀ xs i v = length xs₀ - i
+μ-loop xs₀ first i₀ v₀ xs i v = length xs₀ - i
 
 loop-holds : tie.Need-loop-holds Inv-loop μ-loop
 loop-holds c = refl
