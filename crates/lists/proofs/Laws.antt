@@ -350,7 +350,7 @@ holdable-at (x ∷ xs) zero z X h = X .0
 holdable-at (x ∷ xs) (suc i) z X h = holdable-at xs i z (X .1) (le-of-suc-le-suc h)
 
 -- not before y, and y not before x: not before x
-later : (e x y : Neighbor) → Holdable (e .distance) → Holdable (x .distance) → Holdable (y .distance) → before e y ≡ false → before y x ≡ false → before e x ≡ false
+pub later : (e x y : Neighbor) → Holdable (e .distance) → Holdable (x .distance) → Holdable (y .distance) → before e y ≡ false → before y x ≡ false → before e x ≡ false
 later e x y E X Y p q = go (before e x) refl
   where
     go : (b : Bool) → before e x ≡ b → b ≡ false

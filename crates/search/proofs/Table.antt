@@ -2,8 +2,7 @@
 use mathlib.Core.Path.{_≡_, refl, sym, ap, _∙_}
 use mathlib.Core.Bool.{Bool, true, false, not, _||_}
 use mathlib.Core.List.{List, [], _∷_}
-use Prim.Native.Nat.{ℕ, _+_, _*_, _≤_, _<_}
-use native.Mathlib.Nat.{mul-le-mul-right}
+use Prim.Native.Nat.{ℕ, _*_, _≤_, _<_}
 use native.Mathlib.Omega.{arith}
 use borrow.Author.Tests.{ltb-false, eqb-true, leb-false, not-false, eq-eqb, ne-eqb, lt-ltb, le-ltb}
 use lib.Dec.{leb, ltb, eqb}
@@ -17,7 +16,8 @@ use Rattle.rules.specs.Refusals.{Row, code, codeOf, passed, refused, decide, de
 use Rattle.rules.specs.Calls.{scratch, searchScratch, searchRows}
 use Rattle.rules.specs.SearchCall.{SearchLent, searchTable}
 use Rattle.rules.proofs.Loops.{first-before}
-use Rattle.rules.proofs.Tables.{goes-on, stops, passes, held, left, decide-append, decide-before, none-of, within}
+use Rattle.rules.proofs.Tables.{goes-on, stops, passes, held, left, none-of, within}
+use Rattle.table.proofs.Rows.{by-answer, past-answer, gameRows}
 use Rattle.walk.specs.Walks.{Roots}
 use Rattle.search.specs.Search.{Ready}
 
@@ -53,10 +53,6 @@ module _ (n graph w k results bits words floats : ℕ) where
 
 -- ---- the rows in order
 
--- the first three rows, by what `game` answered
-abbrev pub gameRows : ℕ → ℕ → ℕ → List Row
-gameRows dimension n lanes = row1 dimension ∷ row2 4096 n ∷ row3 dimension n lanes ∷ []
-
 module _ (dimension n lanes graph w : ℕ) (roots : List ℕ) (query k results bits words floats : ℕ) where
   abbrev rows : List Row
   rows = searchRows dimension n lanes graph w roots query k results bits (scratch words floats)
@@ -65,16 +61,14 @@ module _ (dimension n lanes graph w : ℕ) (roots : List ℕ) (query k results b
   later =
       row4 (outside 1 64 w ∷ outside 1 64 k ∷ []) ∷ row6 (lengths n graph w k results bits words floats) ∷ row7 n roots ∷ row8 dimension query ∷ []
 
-  pub by-game : {a : Answer} {r : Refusal} → decisionOf a ≡ decide (gameRows dimension n lanes) → a ≡ Refused r → decisionOf a ≡ decide rows
+  pub by-game : {a : Answer} {r : Refusal} → decisionOf a ≡ decide (gameRows 4096 dimension n lanes) → a ≡ Refused r → decisionOf a ≡ decide rows
   unfolding searchRows decisionOf
-  by-game {a} {r} e f =
-      let g : decide (gameRows dimension n lanes) ≡ refused (codeOf r) = sym e ∙ ap decisionOf f in
-      ap decisionOf f ∙ sym (decide-before (gameRows dimension n lanes) later (codeOf r) g)
+  by-game {a} {r} e f = by-answer (gameRows 4096 dimension n lanes) later e f
 
-  module _ {a : Answer} (e : decisionOf a ≡ decide (gameRows dimension n lanes)) (f : a ≡ Done) where
+  module _ {a : Answer} (e : decisionOf a ≡ decide (gameRows 4096 dimension n lanes)) (f : a ≡ Done) where
     past-game : decide rows ≡ decide later
     unfolding searchRows decisionOf
-    past-game = decide-append (gameRows dimension n lanes) later (sym e ∙ ap decisionOf f)
+    past-game = past-answer (gameRows 4096 dimension n lanes) later e f
 
     pub by-width : outside 1 64 w ≡ true → refused (code 4 0 0) ≡ decide rows
     unfolding decide row4 anyOf
@@ -182,25 +176,3 @@ ready l h =
       words-room = ltb-false _ _ (b4 .0);
       floats-room = ltb-false _ _ (b5 .0);
     }
-
--- ---- the game, once its rows have passed
-
-pub record Game (dimension n lanes : ℕ) : Type 0 where
-  pub nodes : n ≤ 4096
-  pub some : 2 ≤ n
-  pub long : lanes ≡ n * dimension
-
-pub game : {dimension n lanes : ℕ} {a : Answer} → decisionOf a ≡ decide (gameRows dimension n lanes) → a ≡ Done → Game dimension n lanes
-unfolding decisionOf row1 row2 row3
-game {dimension} {n} {lanes} e f =
-    let p1 = passes (row1 dimension) (row2 4096 n ∷ row3 dimension n lanes ∷ []) (sym e ∙ ap decisionOf f) in
-    let p2 = passes (row2 4096 n) (row3 dimension n lanes ∷ []) (p1 .1) in
-    let p3 = passes (row3 dimension n lanes) [] (p2 .1) in
-    record { nodes = within 2 4096 n (p2 .0) .to; some = within 2 4096 n (p2 .0) .from; long = eqb-true lanes (n * dimension) (not-false _ (p3 .0)) }
-
--- node 0 has lanes
-pub first-room : {dimension n lanes : ℕ} → Game dimension n lanes → (0 + 1) * dimension ≤ lanes
-first-room {dimension} {n} {lanes} g =
-    let long = g .long in
-    let least : 1 * dimension ≤ n * dimension = mul-le-mul-right dimension (let s = g .some in let l : 1 ≤ n = omega arith in l) in
-    omega arith

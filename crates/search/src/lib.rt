@@ -148,7 +148,7 @@ fn work(
             SearchAnswer::Refused(Refusal::Pair(v, NodeId(n as u32)))
         }
         Counted::Count(takings) => {
-            let m = walk::fewer(k, roots.len());
+            let m = table::fewer(k, roots.len());
             give(n, m, scratch_u, scratch_f, result_nodes, result_bits);
             buffers::zero_words(scratch_u);
             buffers::zero_floats(scratch_f);

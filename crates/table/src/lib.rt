@@ -1,7 +1,7 @@
-// Rows of the refusal table that several entries test.
+// Rows of the refusal table that several entries test, and the fewer of two counts.
 ghost use mathlib.Core.Path.{_≡_};
 ghost use mathlib.Core.List.{[], _∷_};
-ghost use Prim.Native.Nat.{_≤_, _+_};
+ghost use Prim.Native.Nat.{_≤_, _+_, min};
 ghost use lib.ListN.{length, take};
 ghost use Rattle.rules.specs.Loops.{has};
 ghost use Rattle.rules.specs.Numbers.{outside};
@@ -17,6 +17,13 @@ pub fn outside(low: usize, high: usize, x: usize) -> bool
         return true;
     }
     high < x
+}
+
+/// The fewer of two counts.
+pub fn fewer(a: usize, b: usize) -> usize
+    ensures { λ r. ⌜ r ≡ min a b ⌝ }
+{
+    if a < b { a } else { b }
 }
 
 /// Rows 1, 2 and 3: the dimension, n up to `most`, and the length of the lanes.

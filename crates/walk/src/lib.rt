@@ -82,13 +82,6 @@ fn mark_all(n: usize, roots: &[u32], words: &mut [u32])
     mark_roots(&mut words[..n], roots);
 }
 
-/// The fewer of k and the number of roots.
-pub fn fewer(k: usize, count: usize) -> usize
-    ensures { λ r. ⌜ r ≡ min k count ⌝ }
-{
-    if k < count { k } else { count }
-}
-
 /// Starts the walk: the roots sorted and seen, the first `k` of them in the best set and the queue; counts those.
 fn start(
     lanes: &[f32],
@@ -110,7 +103,7 @@ fn start(
         return r;
     };
     mark_all(n, roots, words);
-    let m = fewer(k, count);
+    let m = table::fewer(k, count);
     enter(n, words, floats, m);
     Counted::Count(m)
 }

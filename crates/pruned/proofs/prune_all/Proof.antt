@@ -1,10 +1,9 @@
 -- `pruned::prune_all` meets its contract: the rows before the q-th stand, and the flags are clear. Assumes nothing.
-use mathlib.Core.Path.{_≡_, refl, sym}
-use Prim.Native.Nat.{ℕ, _+_, _-_, _*_, _≤_}
+use mathlib.Core.Path.{_≡_, refl}
+use Prim.Native.Nat.{_+_, _-_, _*_, _≤_}
 use native.Mathlib.Omega.{arith}
 use lib.ListN.{length, length-take, length-drop}
 use Rattle.rules.specs.Distance.{between}
-use Rattle.rows.proofs.Laws.{row-in, slots-most}
 use Rattle.pruned.specs.Pruned.{sizes}
 use Rattle.pruned.proofs.All.{Where, where-is, Pruning, pruning-none, pruning-room, pruning-turn, pruning-end}
 use borrow.Author.Needs.{needs}

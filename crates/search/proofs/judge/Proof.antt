@@ -3,7 +3,8 @@ use mathlib.Core.Path.{sym, ap, _∙_}
 use lib.Dec.{eqb}
 use Rattle.rules.specs.Refusals.{decisionOf, codeOf}
 use Rattle.rules.proofs.Tables.{within}
-use Rattle.search.proofs.Table.{game, first-room, by-game, by-width, by-k, by-lengths, by-roots, by-query, by-none}
+use Rattle.table.proofs.Rows.{game, first-room}
+use Rattle.search.proofs.Table.{by-game, by-width, by-k, by-lengths, by-roots, by-query, by-none}
 use borrow.Author.Needs.{needs}
 use Rattle.search.proofs.judge.Statement.{statement}
 use Rattle.search.proofs.judge.Tie as tie

@@ -1,0 +1,7 @@
+-- `Rows`: rows one behind the other. `Same`: words and floats that are found the same. `Lists`: lists read back. `Jobs`: jobs read back.
+-- `Back`: a relay read back from its encoding.
+pub mod Rows
+pub mod Same
+pub mod Lists
+pub mod Jobs
+pub mod Back

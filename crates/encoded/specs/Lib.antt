@@ -1,0 +1,2 @@
+-- `Words`: the words that the laws of encodings are said in.
+pub mod Words

@@ -1,0 +1,2 @@
+-- Whether lists are well formed, from the front on.
+pub mod Laws
