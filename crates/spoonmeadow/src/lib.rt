@@ -1,9 +1,13 @@
 // The entries over the C boundary: each is thin over the proved entry and has its equation as its contract.
 ghost use mathlib.Core.Path.{_≡_};
-ghost use Rattle.rules.specs.Refusals.{Code, code, codeOf};
+ghost use Rattle.rules.specs.Refusals.{code, codeOf, saidOf};
 ghost use Rattle.rules.specs.SearchCall.{searchSaid};
+ghost use Rattle.params.specs.Params.{params};
+ghost use Rattle.build.specs.Build.{lent as buildLent};
 ghost use Rattle.search.specs.Search.{lent as searchLent};
-ghost use Rattle.spoonmeadow.specs.Across.{codeIn, foundIn, Searched};
+ghost use Rattle.spoonmeadow.specs.Across.{codeIn, foundIn, Built, Searched};
+use params::SsgParams;
+use rules::Answer;
 use rules::Refusal;
 use rules::SearchAnswer;
 
@@ -56,6 +60,16 @@ fn of_refusal(r: Refusal) -> Said
     }
 }
 
+/// What the answer of build, begin, open, a move or a close says.
+fn of_answer(a: Answer) -> Said
+    ensures { λ s. ⌜ codeIn s ≡ saidOf a ⌝ }
+{
+    match a {
+        Answer::Done => refused(0, 0, 0),
+        Answer::Refused(r) => of_refusal(r),
+    }
+}
+
 /// What a search's answer says.
 fn of_search(a: SearchAnswer) -> Found
     ensures { λ f. ⌜ foundIn f ≡ searchSaid a ⌝ }
@@ -79,6 +93,32 @@ fn of_search(a: SearchAnswer) -> Found
             }
         }
     }
+}
+
+/// `build` for C: the parameters one by one.
+#[no_mangle]
+pub extern "C" fn spoonmeadow_build(
+    init_k: usize,
+    index_size: usize,
+    neighbor_neighbor_size: usize,
+    threshold: f32,
+    dimension: usize,
+    n: usize,
+    lanes: &[f32],
+    graph: &mut [u32],
+    scratch_u: &mut [u32],
+    scratch_f: &mut [f32],
+) -> Said
+    ensures { λ r. ⌜ Built (buildLent (params threshold «init_k» «index_size» «neighbor_neighbor_size») dimension n (now (lanes .entry)) (now (graph .entry)) (now («scratch_u» .entry)) (now («scratch_f» .entry))) r (now (graph .exit)) (now («scratch_u» .exit)) (now («scratch_f» .exit)) ⌝ }
+{
+    let params = SsgParams {
+        threshold,
+        init_k,
+        index_size,
+        neighbor_neighbor_size,
+    };
+    let a = build::build(params, dimension, n, lanes, graph, scratch_u, scratch_f);
+    of_answer(a)
 }
 
 /// `search` for C.
