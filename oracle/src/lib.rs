@@ -8,6 +8,7 @@ pub mod local;
 
 pub mod by_hand;
 pub mod cases;
+pub mod compare;
 pub mod make;
 pub mod prng;
 pub mod run;
