@@ -1,6 +1,6 @@
 -- Lists of entries in lent words and floats, with room to spare or exactly k each, are read back. Assumes nothing.
 use mathlib.Core.Path.{_≡_, refl, sym, ap, _∙_}
-use mathlib.Core.List.{List, [], _∷_, _++_, append-nil, append-assoc, map}
+use mathlib.Core.List.{List, [], _∷_, _++_, append-nil, map}
 use Prim.Native.Nat.{ℕ, zero, suc, _+_, _-_, _*_, _≤_, _<_}
 use native.Mathlib.Nat.{le-of-suc-le-suc, not-suc-le-zero}
 use native.Mathlib.Omega.{arith}
@@ -14,6 +14,7 @@ use Rattle.rules.specs.Places.{padded, listWords, listFloats, listsIn}
 use Rattle.rules.specs.RelayPlaces.{roomWords, roomFloats, lengthsOf}
 use Rattle.lists.specs.All.{All}
 use Rattle.lists.proofs.Plain.{all-at}
+use Rattle.lists.proofs.Slices.{entries-of}
 use Rattle.encoded.specs.Words.{joined, Rows, Short}
 use Rattle.encoded.proofs.Rows.{each-back, length-padded, length-joined, part-joined, rows-map, getD-mapped}
 
@@ -36,9 +37,6 @@ entries-back (x ∷ l) xs ys = ap (λ (r : List Neighbor). x ∷ r) (entries-bac
 pub entries-padded : (m : ℕ) (l : List Neighbor) → entries (length l) (padded m 0 (nodesOf l)) (padded m zero32 (distancesOf l)) ≡ l
 unfolding padded
 entries-padded m l = entries-back l (replicate (m - length (nodesOf l)) 0) (replicate (m - length (distancesOf l)) zero32)
-
-pub entries-whole : (l : List Neighbor) → entries (length l) (nodesOf l) (distancesOf l) ≡ l
-entries-whole l = rw (← append-nil (nodesOf l), ← append-nil (distancesOf l)) (entries-back l [] [])
 
 -- ---- lists with room for m entries each
 
@@ -154,7 +152,7 @@ module _ (k : ℕ) (ls : List (List Neighbor)) (K : Rows k ls) where
       each-back (λ (i : ℕ). entries k (part k i (listWords ls ++ xs)) (part k i (listFloats ls ++ ys))) ls [] n e (λ (i : ℕ) (h : i < length ls).
       let l = getD ls i [] in
       let m : length l ≡ k = all-at (λ (r : List Neighbor). length r ≡ k) ls i [] K h in
-      rw (part-nodes i h xs, part-distances i h ys) (ap (λ (j : ℕ). entries j (nodesOf l) (distancesOf l)) (sym m) ∙ entries-whole l))
+      rw (part-nodes i h xs, part-distances i h ys) (ap (λ (j : ℕ). entries j (nodesOf l) (distancesOf l)) (sym m) ∙ entries-of l))
 
   pub lists-whole : (n : ℕ) → n ≡ length ls → listsIn n k (listWords ls) (listFloats ls) ≡ ls
   lists-whole n e = rw (← append-nil (listWords ls), ← append-nil (listFloats ls)) (lists-back n [] [] e)

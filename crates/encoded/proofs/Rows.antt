@@ -1,15 +1,20 @@
 -- Rows one behind the other: where each stands, and a row put in another's place. Assumes nothing.
 use mathlib.Core.Path.{_≡_, refl, sym, ap, _∙_}
+use mathlib.Core.Bool.{Bool, true, false}
 use mathlib.Core.List.{List, [], _∷_, _++_, append-assoc, append-nil, map}
 use Prim.Native.Nat.{ℕ, zero, suc, _+_, _*_, _-_, _≤_, _<_}
-use native.Mathlib.Nat.{suc-mul, zero-mul, le-of-suc-le-suc, not-suc-le-zero, le-refl}
+use native.Mathlib.Nat.{suc-mul, zero-mul, le-of-suc-le-suc, not-suc-le-zero, le-refl, mul-le-mul-right}
 use native.Mathlib.Omega.{arith}
-use lib.ListN.{length, take, drop, getD, set, replicate, length-append, length-replicate, List·getD-append}
-use lib.Seq.{take-at, drop-at, drop-drop, getD-drop, take-suc, take-all, drop-append-add, take-append-add}
+use lib.Dec.{ltb}
+use lib.ListN.{length, take, drop, getD, set, length-append, length-drop, length-replicate, List·getD-append}
+use lib.Seq.{length-take-le, take-at, drop-at, drop-drop, getD-at, getD-drop, take-suc, take-all, drop-append-add, take-append-add}
+use borrow.Author.Tests.{ltb-true, ltb-false}
 use Rattle.rules.specs.Loops.{each, part, putPart}
 use Rattle.rules.specs.Places.{padded}
+use Rattle.rules.proofs.Loops.{length-each}
 use Rattle.lists.specs.All.{All}
-use Rattle.encoded.specs.Words.{joined, Rows, Short}
+use Rattle.lists.proofs.Plain.{all-append, all-take}
+use Rattle.encoded.specs.Words.{joined, Rows}
 
 module _ {A : Type 0} where
   -- ---- what stands further on
@@ -33,6 +38,60 @@ module _ {A : Type 0} where
 
   pub each-back : (f : ℕ → A) (xs : List A) (z : A) (m : ℕ) → m ≡ length xs → ((i : ℕ) → i < length xs → f i ≡ getD xs i z) → each (λ (i : ℕ). f i ∷ []) m ≡ xs
   each-back f xs z m e h = each-take f xs z h m (omega arith) ∙ take-all m xs (omega arith)
+
+  -- ---- one for each of the places below m
+
+  module _ (f : ℕ → A) where
+    pub length-ones : (m : ℕ) → length (each (λ (i : ℕ). f i ∷ []) m) ≡ m
+    length-ones m = length-each (λ (i : ℕ). f i ∷ []) 1 (λ (i : ℕ). refl) m ∙ omega arith
+
+    pub getD-ones : (m i : ℕ) (z : A) → i < m → getD (each (λ (i : ℕ). f i ∷ []) m) i z ≡ f i
+    unfolding each
+    getD-ones zero i z h = absurd (not-suc-le-zero h)
+    getD-ones (suc m) i z h = go (ltb i m) refl (getD-ones m i z)
+      where
+        e : length (each (λ (i : ℕ). f i ∷ []) m) ≡ m
+        e = length-ones m
+
+        go : (b : Bool) → ltb i m ≡ b → (i < m → getD (each (λ (i : ℕ). f i ∷ []) m) i z ≡ f i)
+            → getD (each (λ (i : ℕ). f i ∷ []) m ++ (f m ∷ [])) i z ≡ f i
+        go true t ih =
+            let l = ltb-true i m t in
+            let e' = e in
+            List·getD-append (each (λ (i : ℕ). f i ∷ []) m) (f m ∷ []) z i (omega arith) ∙ ih l
+        go false t ih =
+            let l = ltb-false i m t in
+            let q : m ≡ i = omega arith in
+            getD-at (each (λ (i : ℕ). f i ∷ []) m) (f m) [] z i (e ∙ q) ∙ ap f q
+
+    pub all-ones : (P : A → Type 0) (m : ℕ) → ((i : ℕ) → i < m → P (f i)) → All P (each (λ (i : ℕ). f i ∷ []) m)
+    unfolding each
+    all-ones P zero h = tt
+    all-ones P (suc m) h =
+        all-append P (each (λ (i : ℕ). f i ∷ []) m) (f m ∷ []) (all-ones P m (λ (i : ℕ) (l : i < m). h i (omega arith))) (h m (le-refl (suc m)), tt)
+
+  -- ---- a part of a list
+
+  pub length-part : (w n q : ℕ) (xs : List A) → length xs ≡ n * w → q < n → length (part w q xs) ≡ w
+  unfolding part
+  length-part w n q xs e h =
+      let a = mul-le-mul-right w h in
+      let b = suc-mul q w in
+      length-take-le w (drop (q * w) xs) (simp length-drop (omega arith))
+
+  pub all-drop : (P : A → Type 0) (m : ℕ) (xs : List A) → All P xs → All P (drop m xs)
+  all-drop P zero xs X = X
+  all-drop P (suc m) [] X = tt
+  all-drop P (suc m) (x ∷ xs) X = all-drop P m xs (X .1)
+
+  pub all-part : (P : A → Type 0) (w q : ℕ) (xs : List A) → All P xs → All P (part w q xs)
+  unfolding part
+  all-part P w q xs X = all-take P w (drop (q * w) xs) (all-drop P (q * w) xs X)
+
+  pub all-getD : (P : A → Type 0) (xs : List A) (i : ℕ) (z : A) → All P xs → P z → P (getD xs i z)
+  all-getD P [] i z X Z = Z
+  all-getD P (x ∷ xs) zero z X Z = X .0
+  all-getD P (x ∷ xs) (suc i) z X Z = all-getD P xs i z (X .1) Z
 
   -- ---- padded rows
 

@@ -2,7 +2,7 @@
 use mathlib.Core.Path.{_≡_, sym, ap, _∙_, subst}
 use mathlib.Core.Bool.{false}
 use mathlib.Core.List.{List, map}
-use Prim.Native.Nat.{ℕ, _-_, _<_}
+use Prim.Native.Nat.{ℕ, _-_, _≤_, _<_}
 use native.Mathlib.Omega.{arith}
 use lib.ListN.{length, take}
 use lib.Ieee.{Float}
@@ -20,6 +20,19 @@ use Rattle.hops.proofs.Laws.{candidates-same, all-candidates}
 use Rattle.prune.specs.Chosen.{AllBelow, Chosen}
 use Rattle.prune.proofs.Laws.{below-sort}
 use Rattle.pruned.specs.Pruned.{sizes, Given, Room, PrunedRow}
+
+-- there is room for the candidates
+pub room-for : {d : Between} {n k count limit q len : ℕ} {lists flags flags' nodes nodes₁ : List ℕ} {dists : List Float} → Given d n k count limit lists → Room n flags nodes dists
+    → Candidates (listOf lists k count) count limit q flags nodes flags' nodes₁ len → (len ≤ length nodes₁) × (len ≤ length dists)
+room-for given room c =
+    let within = c .within in
+    let hops = given .hops in
+    let most = given .most in
+    let fewest = given .fewest in
+    let long = c .long in
+    let nodes = room .nodes-long in
+    let dists = room .dists-long in
+    (omega arith, omega arith)
 
 module _ (d : Between) (n k count limit : ℕ) (lists : List ℕ) (given : Given d n k count limit lists) where
   -- the members of each list are below n
@@ -52,14 +65,8 @@ module _ (d : Between) (n k count limit : ℕ) (lists : List ℕ) (given : Given
         → PrunedRow d n (sizes k w limit t) q flags flags' nodes₂ dists₂ ns₂ ds₂
     unfolding pruned
     row-is w t {len} {r} {flags} {flags'} {nodes} {nodes₁} {nodes₂} {dists} {dists₁} {dists₂} room c e dl s x f =
-        let within = c .within in
-        let hops = given .hops in
-        let most = given .most in
-        let fewest = given .fewest in
-        let long = c .long in
-        let nl = room .nodes-long in
         let raw : entries len nodes₁ dists₁ ≡ map (entry d q) (candidates (exactList d n k) limit q) =
-        ap (entries len nodes₁) e ∙ entries-some d q len nodes₁ dists (omega arith) ∙ ap (map (entry d q)) (c .list ∙ same-candidates) in
+        ap (entries len nodes₁) e ∙ entries-some d q len nodes₁ dists (room-for given room c .0) ∙ ap (map (entry d q)) (c .list ∙ same-candidates) in
         record {
           row = f ∙ ap (rowOf n w) (x .list ∙ ap (choose (occludes d t false) w) (s .list ∙ ap sort raw));
           flags = c .same;
@@ -72,12 +79,6 @@ pub ready : {d : Between} {n k count limit q len : ℕ} {lists flags flags' node
     → Candidates (listOf lists k count) count limit q flags nodes flags' nodes₁ len → dists₁ ≡ over len (map (d q) (take len nodes₁)) dists → SortedIn nodes₁ dists₁ len nodes₂ dists₂
     → AllBelow n (entries len nodes₂ dists₂)
 ready {d} {n} {k} {count} {limit} {q} {len} {lists} {flags} {flags'} {nodes} {nodes₁} {nodes₂} {dists} {dists₁} {dists₂} given h room c e s =
-    let within = c .within in
-    let hops = given .hops in
-    let most = given .most in
-    let fewest = given .fewest in
-    let long = c .long in
-    let nl = room .nodes-long in
     subst (AllBelow n) (sym (s .list))
-    (sorted-below d n k count limit lists given q h (entries len nodes₁ dists₁) (take len nodes₁) (ap (entries len nodes₁) e ∙ entries-some d q len nodes₁ dists (omega arith))
+    (sorted-below d n k count limit lists given q h (entries len nodes₁ dists₁) (take len nodes₁) (ap (entries len nodes₁) e ∙ entries-some d q len nodes₁ dists (room-for given room c .0))
     (subst (All (λ (v : ℕ). v < n)) (sym (c .list)) (candidates-below d n k count limit lists given q h)))

@@ -31,6 +31,14 @@ slots-most n w h g =
     let a : n * w ≤ 4096 * w = mul-le-mul-right w h in
     omega arith
 
+-- row q lies within the slots, and they within what a number holds
+pub record RowIn (n w q : ℕ) : Type 0 where
+  pub room : q * w + w ≤ n * w
+  pub most : n * w ≤ 262144
+
+pub row-at : {n w q : ℕ} → n ≤ 4096 → w ≤ 64 → q < n → RowIn n w q
+row-at {n} {w} {q} h g l = record { room = row-in n w q l; most = slots-most n w h g }
+
 -- ---- entries of lists one behind the other, and of a part
 
 pub entries-append : (k m : ℕ) (ns ns' : List ℕ) (ds ds' : List Float) → length ns ≡ k → length ds ≡ k

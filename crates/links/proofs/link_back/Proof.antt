@@ -3,11 +3,15 @@ use mathlib.Core.Path.{_≡_, sym, _∙_}
 use Prim.Native.Nat.{_+_, _-_, _*_}
 use native.Mathlib.Omega.{arith}
 use Rattle.rules.specs.Distance.{between}
-use Rattle.rows.proofs.Laws.{row-in, slots-most}
+use Rattle.rows.proofs.Laws.{RowIn, row-at}
 use Rattle.links.proofs.Slots.{lent-sound, linked-known, linked-offered}
 use borrow.Author.Needs.{needs}
 use Rattle.links.proofs.link_back.Statement.{statement}
 use Rattle.links.proofs.link_back.Tie as tie
+
+-- the row of the entry's node
+top : (start : tie.Start) → RowIn (start .args .n) (start .args .index-size) (start .args .e .node .0)
+top start = row-at (start .pre .1 .most) (start .pre .1 .wide) (start .pre .0 .2)
 
 is-linked-requires : tie.Need-is-linked-requires
 is-linked-requires c κs =
@@ -32,37 +36,13 @@ cast-row : tie.Need-cast-row
 cast-row c = search needs
 
 mul-from : tie.Need-mul-from
-mul-from c =
-    let start = c .before .before .before .before .before .before .before .before .before .before .before in
-    let pre = start .pre in
-    let n = start .args .n in
-    let w = start .args .index-size in
-    let q = start .args .e .node .0 in
-    let room = row-in n w q (pre .0 .2) in
-    let most = slots-most n w (pre .1 .most) (pre .1 .wide) in
-    search needs
+mul-from c = let fits = top (c .before .before .before .before .before .before .before .before .before .before .before) in search needs
 
 add-to : tie.Need-add-to
-add-to c =
-    let start = c .before .before .before .before .before .before .before .before .before .before .before in
-    let pre = start .pre in
-    let n = start .args .n in
-    let w = start .args .index-size in
-    let q = start .args .e .node .0 in
-    let room = row-in n w q (pre .0 .2) in
-    let most = slots-most n w (pre .1 .most) (pre .1 .wide) in
-    search needs
+add-to c = let fits = top (c .before .before .before .before .before .before .before .before .before .before .before) in search needs
 
 mul-offer : tie.Need-mul-offer
-mul-offer c =
-    let start = c .before .before .before .before .before .before .before .before .before .before .before in
-    let pre = start .pre in
-    let n = start .args .n in
-    let w = start .args .index-size in
-    let q = start .args .e .node .0 in
-    let room = row-in n w q (pre .0 .2) in
-    let most = slots-most n w (pre .1 .most) (pre .1 .wide) in
-    search needs
+mul-offer c = let fits = top (c .before .before .before .before .before .before .before .before .before .before .before) in search needs
 
 sub-offer : tie.Need-sub-offer
 sub-offer c = search needs
@@ -71,26 +51,10 @@ part-offer-start : tie.Need-part-offer-start
 part-offer-start c = search needs
 
 part-offer-end : tie.Need-part-offer-end
-part-offer-end c =
-    let start = c .before .before .before .before .before .before .before .before .before .before .before in
-    let pre = start .pre in
-    let n = start .args .n in
-    let w = start .args .index-size in
-    let q = start .args .e .node .0 in
-    let room = row-in n w q (pre .0 .2) in
-    let most = slots-most n w (pre .1 .most) (pre .1 .wide) in
-    search needs
+part-offer-end c = let fits = top (c .before .before .before .before .before .before .before .before .before .before .before) in search needs
 
 mul-offer-2 : tie.Need-mul-offer-2
-mul-offer-2 c =
-    let start = c .before .before .before .before .before .before .before .before .before .before .before .before in
-    let pre = start .pre in
-    let n = start .args .n in
-    let w = start .args .index-size in
-    let q = start .args .e .node .0 in
-    let room = row-in n w q (pre .0 .2) in
-    let most = slots-most n w (pre .1 .most) (pre .1 .wide) in
-    search needs
+mul-offer-2 c = let fits = top (c .before .before .before .before .before .before .before .before .before .before .before .before) in search needs
 
 sub-offer-2 : tie.Need-sub-offer-2
 sub-offer-2 c = search needs
@@ -99,15 +63,7 @@ part-offer-start-2 : tie.Need-part-offer-start-2
 part-offer-start-2 c = search needs
 
 part-offer-end-2 : tie.Need-part-offer-end-2
-part-offer-end-2 c =
-    let start = c .before .before .before .before .before .before .before .before .before .before .before .before in
-    let pre = start .pre in
-    let n = start .args .n in
-    let w = start .args .index-size in
-    let q = start .args .e .node .0 in
-    let room = row-in n w q (pre .0 .2) in
-    let most = slots-most n w (pre .1 .most) (pre .1 .wide) in
-    search needs
+part-offer-end-2 c = let fits = top (c .before .before .before .before .before .before .before .before .before .before .before .before) in search needs
 
 offer-requires : tie.Need-offer-requires
 offer-requires c κs =
@@ -116,32 +72,15 @@ offer-requires c κs =
     let n = start .args .n in
     let w = start .args .index-size in
     let q = start .args .e .node .0 in
-    let room = row-in n w q (pre .0 .2) in
-    let most = slots-most n w (pre .1 .most) (pre .1 .wide) in
+    let fits = top start in
     let wide : q * w + w - q * w ≡ w = omega arith in
     ((pre .0 .0, pre .0 .1, lent-sound n w (start .args .nodes .now) (start .args .dists .now) (between (start .args .lanes .now) (start .args .dimension)) (start .args .threshold) (start .args .v .0) (start .args .e) (pre .1 .nodes) (pre .1 .dists) (pre .0 .2) (pre .0 .3) (q * w + w - q * w) wide), search needs)
 
 same-length-3 : tie.Need-same-length-3
-same-length-3 c =
-    let start = c .before .before .before .before .before .before .before .before .before .before .before .before .before .before .before .before .before .before .before .before .before .before .before .before in
-    let pre = start .pre in
-    let n = start .args .n in
-    let w = start .args .index-size in
-    let q = start .args .e .node .0 in
-    let room = row-in n w q (pre .0 .2) in
-    let most = slots-most n w (pre .1 .most) (pre .1 .wide) in
-    search needs
+same-length-3 c = let fits = top (c .before .before .before .before .before .before .before .before .before .before .before .before .before .before .before .before .before .before .before .before .before .before .before .before) in search needs
 
 same-length-4 : tie.Need-same-length-4
-same-length-4 c =
-    let start = c .before .before .before .before .before .before .before .before .before .before .before .before .before .before .before .before .before .before .before .before .before .before .before .before in
-    let pre = start .pre in
-    let n = start .args .n in
-    let w = start .args .index-size in
-    let q = start .args .e .node .0 in
-    let room = row-in n w q (pre .0 .2) in
-    let most = slots-most n w (pre .1 .most) (pre .1 .wide) in
-    search needs
+same-length-4 c = let fits = top (c .before .before .before .before .before .before .before .before .before .before .before .before .before .before .before .before .before .before .before .before .before .before .before .before) in search needs
 
 same-length-5 : tie.Need-same-length-5
 same-length-5 c = search needs
@@ -156,8 +95,7 @@ returns-2 c =
     let n = start .args .n in
     let w = start .args .index-size in
     let q = start .args .e .node .0 in
-    let room = row-in n w q (pre .0 .2) in
-    let most = slots-most n w (pre .1 .most) (pre .1 .wide) in
+    let fits = top start in
     let wide : q * w + w - q * w ≡ w = omega arith in
     linked-offered n w (start .args .nodes .now) (start .args .dists .now) (between (start .args .lanes .now) (start .args .dimension)) (start .args .threshold) (start .args .v .0) (start .args .e) (pre .1 .nodes) (pre .1 .dists) (pre .0 .2) (pre .0 .3) (sym (c .before .before .before .before .before .before .before .before .before .before .before .before .before .before .before .is-linked .ensures) ∙ c .before .before .before .before .before .before .before .before .before .before .before .before .before .before .if1 .left) (pre .0 .1) _ wide _ _ (search needs) (search needs) (c .before .before .before .before .before .before .before .before .offer .ensures)
 

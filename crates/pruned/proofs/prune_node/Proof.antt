@@ -4,7 +4,7 @@ use Prim.Native.Nat.{ℕ, _-_, _<_}
 use native.Mathlib.Omega.{arith}
 use Rattle.lists.specs.All.{All}
 use Rattle.hops.specs.Hops.{Linked}
-use Rattle.pruned.proofs.Laws.{linked, candidates-below, ready, row-is}
+use Rattle.pruned.proofs.Laws.{linked, candidates-below, room-for, ready, row-is}
 use borrow.Author.Needs.{needs}
 use Rattle.pruned.proofs.prune_node.Statement.{statement}
 use Rattle.pruned.proofs.prune_node.Tie as tie
@@ -25,54 +25,25 @@ distances-to-requires : tie.Need-distances-to-requires
 distances-to-requires c κs =
     let found = c .before .before .before .before .before .before in
     let p = found .before .before .before .before .before .before .before .before .before .before .pre in
-    let given = p .1 .0 in
-    let room = p .1 .1 .0 in
-    let fewest = given .fewest in
-    let hops = given .hops in
-    let most = given .most in
-    let nodes = room .nodes-long in
-    let dists = room .dists-long in
     let r = found .candidates .ensures in
-    let within = r .within in
-    let long = r .long in
-    ((p .0 .0, p .0 .1, subst (All (λ (v : ℕ). v < _)) (sym (r .list)) (candidates-below _ _ _ _ _ _ given _ (p .0 .1))), (omega arith, omega arith))
+    ((p .0 .0, p .0 .1, subst (All (λ (v : ℕ). v < _)) (sym (r .list)) (candidates-below _ _ _ _ _ _ (p .1 .0) _ (p .0 .1))), room-for (p .1 .0) (p .1 .1 .0) r)
 
 sort-requires : tie.Need-sort-requires
 sort-requires c κs =
     let found = c .before .before .before .before .before .before .before .before .before .before .before in
     let p = found .before .before .before .before .before .before .before .before .before .before .pre in
-    let given = p .1 .0 in
-    let room = p .1 .1 .0 in
-    let fewest = given .fewest in
-    let hops = given .hops in
-    let most = given .most in
-    let nodes = room .nodes-long in
-    let dists = room .dists-long in
-    let r = found .candidates .ensures in
-    let within = r .within in
-    let long = r .long in
-    let kept = c .before .before .before .before .distances-to .kept .1 .1 .1 .1 .1 .1 .0 in
-    (omega arith, omega arith)
+    let fits = room-for (p .1 .0) (p .1 .1 .0) (found .candidates .ensures) in
+    (fits .0, omega (arith, fits .1, c .before .before .before .before .distances-to .kept .1 .1 .1 .1 .1 .1 .0))
 
 choose-requires : tie.Need-choose-requires
 choose-requires c κs =
     let found = c .before .before .before .before .before .before .before .before .before .before .before .before .before .before .before .before .before .before .before .before in
     let p = found .before .before .before .before .before .before .before .before .before .before .pre in
-    let given = p .1 .0 in
-    let room = p .1 .1 .0 in
-    let fewest = given .fewest in
-    let hops = given .hops in
-    let most = given .most in
-    let nodes = room .nodes-long in
-    let dists = room .dists-long in
     let r = found .candidates .ensures in
-    let within = r .within in
-    let long = r .long in
-    let kept = c .before .before .before .before .before .before .before .before .before .before .before .before .before .distances-to .kept .1 .1 .1 .1 .1 .1 .0 in
+    let fits = room-for (p .1 .0) (p .1 .1 .0) r in
+    let measured = c .before .before .before .before .before .before .before .before .before .before .before .before .before .distances-to in
     let s = c .before .before .before .before .before .before .before .before .sort .ensures in
-    let sn = s .nodes-long in
-    let sd = s .dists-long in
-    ((p .0 .0, ready given (p .0 .1) room r (c .before .before .before .before .before .before .before .before .before .before .before .before .before .distances-to .ensures) s), ((omega arith, omega arith), (omega arith, omega arith)))
+    ((p .0 .0, ready (p .1 .0) (p .0 .1) (p .1 .1 .0) r (measured .ensures) s), ((omega (arith, fits .0, s .nodes-long), omega (arith, fits .1, measured .kept .1 .1 .1 .1 .1 .1 .0, s .dists-long)), (omega arith, omega arith)))
 
 fill-row-requires : tie.Need-fill-row-requires
 fill-row-requires c κs =
@@ -100,7 +71,9 @@ returns : tie.Need-returns
 returns c =
     let found = c .before .before .before .before .before .before .before .before .before .before .before .before .before .before .before .before .before .before .before .before .before .before .before .before .before .before .before .before .before .before .before .before in
     let p = found .before .before .before .before .before .before .before .before .before .before .pre in
-    row-is _ _ _ _ _ _ (p .1 .0) _ (p .0 .1) _ _ (p .1 .1 .0) (found .candidates .ensures) (c .before .before .before .before .before .before .before .before .before .before .before .before .before .before .before .before .before .before .before .before .before .before .before .before .before .distances-to .ensures) (c .before .before .before .before .before .before .before .before .before .before .before .before .before .before .before .before .before .before .before .before .before .before .before .before .before .distances-to .kept .1 .1 .1 .1 .1 .1 .0) (c .before .before .before .before .before .before .before .before .before .before .before .before .before .before .before .before .before .before .before .before .sort .ensures) (c .before .before .before .before .before .before .before .before .before .before .before .choose .ensures) (c .before .before .before .before .fill-row .ensures)
+    let measured = c .before .before .before .before .before .before .before .before .before .before .before .before .before .before .before .before .before .before .before .before .before .before .before .before .before .distances-to in
+    row-is _ _ _ _ _ _ (p .1 .0) _ (p .0 .1) _ _ (p .1 .1 .0) (found .candidates .ensures) (measured .ensures) (measured .kept .1 .1 .1 .1 .1 .1 .0)
+    (c .before .before .before .before .before .before .before .before .before .before .before .before .before .before .before .before .before .before .before .before .sort .ensures) (c .before .before .before .before .before .before .before .before .before .before .before .choose .ensures) (c .before .before .before .before .fill-row .ensures)
 
 pub prune-node-spec : {M : Type 1} → statement M
 prune-node-spec =

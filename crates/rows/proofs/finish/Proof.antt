@@ -2,7 +2,7 @@
 use mathlib.Core.Path.{_≡_}
 use Prim.Native.Nat.{_+_, _-_, _*_}
 use native.Mathlib.Omega.{arith}
-use Rattle.rows.proofs.Laws.{row-in, slots-most, Finishing, finishing-none, finishing-turn, finishing-end}
+use Rattle.rows.proofs.Laws.{RowIn, row-at, Finishing, finishing-none, finishing-turn, finishing-end}
 use borrow.Author.Needs.{needs}
 use Rattle.rows.proofs.finish.Statement.{statement}
 use Rattle.rows.proofs.finish.Tie as tie
@@ -13,96 +13,45 @@ Inv-loop n index-size nodes₀ dists q₀ nodes q = Finishing n index-size nodes
 abbrev μ-loop : tie.MeasureT-loop
 μ-loop n index-size nodes₀ dists q₀ nodes q = n - q
 
+-- the row of this turn
+top : (c : tie.In-loop Inv-loop μ-loop) → RowIn (c .before .before .before .before .args .n) (c .before .before .before .before .args .index-size) (c .before .loop .q)
+top c = let p = c .before .before .before .before .pre .0 in row-at (p .0) (p .1) (c .loop-test .taken)
+
 loop-holds : tie.Need-loop-holds Inv-loop μ-loop
 loop-holds c = finishing-none _ _ _ _
 
 mul-a : tie.Need-mul-a Inv-loop μ-loop
-mul-a c =
-    let start = c .before .before .before .before in
-    let room = row-in (start .args .n) (start .args .index-size) (c .before .loop .q) (c .loop-test .taken) in
-    let most = slots-most (start .args .n) (start .args .index-size) (start .pre .0 .0) (start .pre .0 .1) in
-    let long = c .before .loop .inv .long in
-    search needs
+mul-a c = let fits = top c in search needs
 
 add-e : tie.Need-add-e Inv-loop μ-loop
-add-e c =
-    let start = c .before .before .before .before in
-    let room = row-in (start .args .n) (start .args .index-size) (c .before .loop .q) (c .loop-test .taken) in
-    let most = slots-most (start .args .n) (start .args .index-size) (start .pre .0 .0) (start .pre .0 .1) in
-    let long = c .before .loop .inv .long in
-    search needs
+add-e c = let fits = top c in search needs
 
 mul-finish-row : tie.Need-mul-finish-row Inv-loop μ-loop
-mul-finish-row c =
-    let start = c .before .before .before .before in
-    let room = row-in (start .args .n) (start .args .index-size) (c .before .loop .q) (c .loop-test .taken) in
-    let most = slots-most (start .args .n) (start .args .index-size) (start .pre .0 .0) (start .pre .0 .1) in
-    let long = c .before .loop .inv .long in
-    search needs
+mul-finish-row c = let fits = top c in search needs
 
 sub-finish-row : tie.Need-sub-finish-row Inv-loop μ-loop
-sub-finish-row c =
-    let start = c .before .before .before .before in
-    let room = row-in (start .args .n) (start .args .index-size) (c .before .loop .q) (c .loop-test .taken) in
-    let most = slots-most (start .args .n) (start .args .index-size) (start .pre .0 .0) (start .pre .0 .1) in
-    let long = c .before .loop .inv .long in
-    search needs
+sub-finish-row c = let fits = top c in search needs
 
 part-finish-row-start : tie.Need-part-finish-row-start Inv-loop μ-loop
-part-finish-row-start c =
-    let start = c .before .before .before .before in
-    let room = row-in (start .args .n) (start .args .index-size) (c .before .loop .q) (c .loop-test .taken) in
-    let most = slots-most (start .args .n) (start .args .index-size) (start .pre .0 .0) (start .pre .0 .1) in
-    let long = c .before .loop .inv .long in
-    search needs
+part-finish-row-start c = let fits = top c in search needs
 
 part-finish-row-end : tie.Need-part-finish-row-end Inv-loop μ-loop
-part-finish-row-end c =
-    let start = c .before .before .before .before in
-    let room = row-in (start .args .n) (start .args .index-size) (c .before .loop .q) (c .loop-test .taken) in
-    let most = slots-most (start .args .n) (start .args .index-size) (start .pre .0 .0) (start .pre .0 .1) in
-    let long = c .before .loop .inv .long in
-    search needs
+part-finish-row-end c = let fits = top c in search needs
 
 mul-finish-row-2 : tie.Need-mul-finish-row-2 Inv-loop μ-loop
-mul-finish-row-2 c =
-    let start = c .before .before .before .before .before in
-    let room = row-in (start .args .n) (start .args .index-size) (c .before .before .loop .q) (c .before .loop-test .taken) in
-    let most = slots-most (start .args .n) (start .args .index-size) (start .pre .0 .0) (start .pre .0 .1) in
-    let long = c .before .before .loop .inv .long in
-    search needs
+mul-finish-row-2 c = let fits = top (c .before) in search needs
 
 sub-finish-row-2 : tie.Need-sub-finish-row-2 Inv-loop μ-loop
-sub-finish-row-2 c =
-    let start = c .before .before .before .before .before in
-    let room = row-in (start .args .n) (start .args .index-size) (c .before .before .loop .q) (c .before .loop-test .taken) in
-    let most = slots-most (start .args .n) (start .args .index-size) (start .pre .0 .0) (start .pre .0 .1) in
-    let long = c .before .before .loop .inv .long in
-    search needs
+sub-finish-row-2 c = let fits = top (c .before) in search needs
 
 part-finish-row-start-2 : tie.Need-part-finish-row-start-2 Inv-loop μ-loop
-part-finish-row-start-2 c =
-    let start = c .before .before .before .before .before in
-    let room = row-in (start .args .n) (start .args .index-size) (c .before .before .loop .q) (c .before .loop-test .taken) in
-    let most = slots-most (start .args .n) (start .args .index-size) (start .pre .0 .0) (start .pre .0 .1) in
-    let long = c .before .before .loop .inv .long in
-    search needs
+part-finish-row-start-2 c = let fits = top (c .before) in search needs
 
 part-finish-row-end-2 : tie.Need-part-finish-row-end-2 Inv-loop μ-loop
-part-finish-row-end-2 c =
-    let start = c .before .before .before .before .before in
-    let room = row-in (start .args .n) (start .args .index-size) (c .before .before .loop .q) (c .before .loop-test .taken) in
-    let most = slots-most (start .args .n) (start .args .index-size) (start .pre .0 .0) (start .pre .0 .1) in
-    let long = c .before .before .loop .inv .long in
-    search needs
+part-finish-row-end-2 c = let fits = top (c .before) in search needs
 
 finish-row-requires : tie.Need-finish-row-requires Inv-loop μ-loop
-finish-row-requires c κs =
-    let start = c .before .before .before .before .before .before in
-    let room = row-in (start .args .n) (start .args .index-size) (c .before .before .before .loop .q) (c .before .before .loop-test .taken) in
-    let most = slots-most (start .args .n) (start .args .index-size) (start .pre .0 .0) (start .pre .0 .1) in
-    let long = c .before .before .before .loop .inv .long in
-    search needs
+finish-row-requires c κs = let fits = top (c .before .before) in search needs
 
 add-q : tie.Need-add-q Inv-loop μ-loop
 add-q c = search needs

@@ -1,0 +1,3 @@
+-- `Laws`: what is written, list by list. `Whole`: the whole state.
+pub mod Laws
+pub mod Whole

@@ -1,0 +1,2 @@
+-- What a begin leaves in a descent's state.
+pub mod Begins

@@ -1,0 +1,5 @@
+-- `Members`: one list of a context. `Contexts`: those of all nodes. `Spare`: the bits behind those of the pairs.
+pub mod Members
+pub mod Contexts
+pub mod Spare
+pub mod Whole

@@ -1,0 +1,2 @@
+-- What is tested of a descent's state, part by part.
+pub mod State

@@ -1,0 +1,164 @@
+// The common ground of the refusal tests: junk in lent places, what became of it after a call, and a refusal's numbers in a line.
+use libc::STDOUT_FILENO;
+use rules::Refusal;
+
+/// The largest number.
+pub const LARGEST: usize = 18446744073709551615;
+
+// What the first place of each scratch slice holds before a call; each further place holds one more.
+const WORDS: u32 = 0xEF00_0000;
+
+const FLOATS: f32 = 1.5;
+
+/// A refusal's number and places.
+pub struct Code {
+    pub number: usize,
+    pub first: usize,
+    pub second: usize,
+}
+
+/// What became of lent places: they stand as they were, they are all zero, or neither.
+pub enum Left {
+    Untouched,
+    Zeroed,
+    Written,
+}
+
+/// Fills lent words with junk: `first`, and one more in each further place.
+pub fn fill_words(xs: &mut [u32], first: u32) {
+    let mut i: usize = 0;
+    let mut v = first;
+    while i < xs.len() {
+        xs[i] = v;
+        v = std::num::wrapping_add_u32(v, 1);
+        i += 1;
+    }
+}
+
+fn fill_floats(xs: &mut [f32]) {
+    let mut i: usize = 0;
+    let mut v = FLOATS;
+    while i < xs.len() {
+        xs[i] = v;
+        v = v + 1.0;
+        i += 1;
+    }
+}
+
+/// Fills both scratch slices with junk.
+pub fn fill_scratch(words: &mut [u32], floats: &mut [f32]) {
+    fill_words(words, WORDS);
+    fill_floats(floats);
+}
+
+/// Whether every place from `from` on is as `fill_words` left it.
+pub fn kept_words(xs: &[u32], from: usize, first: u32) -> bool {
+    let mut i: usize = 0;
+    let mut v = first;
+    while i < xs.len() {
+        if from <= i {
+            if xs[i] != v {
+                return false;
+            }
+        }
+        v = std::num::wrapping_add_u32(v, 1);
+        i += 1;
+    }
+    true
+}
+
+// Whether every place is as `fill_floats` left it: equal numbers that are not zero have equal bits, and a NaN equals none.
+fn kept_floats(xs: &[f32]) -> bool {
+    let mut i: usize = 0;
+    let mut v = FLOATS;
+    while i < xs.len() {
+        if xs[i] != v {
+            return false;
+        }
+        v = v + 1.0;
+        i += 1;
+    }
+    true
+}
+
+fn kept(words: &[u32], floats: &[f32]) -> bool {
+    if kept_words(words, 0, WORDS) {
+        return kept_floats(floats);
+    }
+    false
+}
+
+fn zeroed(words: &[u32], floats: &[f32]) -> bool {
+    if replays::all_words(words, 0, 0) {
+        return replays::all_zero(floats);
+    }
+    false
+}
+
+/// What became of both scratch slices after `fill_scratch` and a call.
+pub fn scratch_left(words: &[u32], floats: &[f32]) -> Left {
+    if kept(words, floats) {
+        return Left::Untouched;
+    }
+    if zeroed(words, floats) {
+        return Left::Zeroed;
+    }
+    Left::Written
+}
+
+fn coded(number: usize, first: usize, second: usize) -> Code {
+    Code {
+        number: number,
+        first: first,
+        second: second,
+    }
+}
+
+/// The number and places of a refusal.
+pub fn code_of(r: Refusal) -> Code {
+    match r {
+        Refusal::Dimension => coded(1, 0, 0),
+        Refusal::Nodes => coded(2, 0, 0),
+        Refusal::Lanes => coded(3, 0, 0),
+        Refusal::Parameter => coded(4, 0, 0),
+        Refusal::Threshold => coded(5, 0, 0),
+        Refusal::Buffer => coded(6, 0, 0),
+        Refusal::Root(at) => coded(7, at, 0),
+        Refusal::Query => coded(8, 0, 0),
+        Refusal::Job(at) => coded(9, at, 0),
+        Refusal::Pair(v, w) => coded(10, v.0 as usize, w.0 as usize),
+        Refusal::Draws => coded(11, 0, 0),
+        Refusal::State => coded(12, 0, 0),
+        Refusal::Step(at) => coded(13, at, 0),
+    }
+}
+
+/// Prints a number behind a text.
+pub fn put(before: &[u8], n: usize) {
+    io::write_all(STDOUT_FILENO, before);
+    io::print_decimal(STDOUT_FILENO, n as u64);
+}
+
+/// Prints a refusal's number and places.
+pub fn put_refusal(r: Refusal) {
+    let code = code_of(r);
+    put(b": ", code.number);
+    put(b",", code.first);
+    put(b",", code.second);
+}
+
+/// Ends a line by what became of the lent places.
+pub fn put_left(l: Left) {
+    match l {
+        Left::Untouched => io::write_all(STDOUT_FILENO, b", untouched\n"),
+        Left::Zeroed => io::write_all(STDOUT_FILENO, b", zeroed\n"),
+        Left::Written => io::write_all(STDOUT_FILENO, b", written\n"),
+    }
+    ;
+}
+
+/// A number that is none, for a lane, a query or a threshold.
+pub fn nan() -> f32 {
+    let zero = 0.0f32;
+    zero / zero
+}

@@ -1,0 +1,89 @@
+-- A move of an unfinished job of a well-formed relay always succeeds, and so does a close when all jobs are finished. Assumes nothing.
+use mathlib.Core.Path.{_≡_, refl, sym, ap, _∙_}
+use mathlib.Core.Bool.{Bool, true, false, not, _||_}
+use mathlib.Core.List.{List, [], _∷_}
+use Prim.Native.Nat.{ℕ, _*_, _≤_, _<_}
+use native.Mathlib.Omega.{arith}
+use lib.Dec.{leb, ltb}
+use lib.ListN.{length}
+use lib.Ieee.{Float}
+use borrow.Author.Tests.{lt-leb, le-ltb}
+use Rattle.rules.specs.Numbers.{most, mostTaught, outside}
+use Rattle.rules.specs.Refusals.{noRefusal, passed, decide, holds, notExactly, row2, row4, row6, row12, row13}
+use Rattle.rules.specs.Calls.{relayWords, relayFloats, moveRows, closeRows}
+use Rattle.rules.specs.Loops.{over}
+use Rattle.rules.specs.Relay.{Job, Relay, moved, isFinished, jobAt, lowestUnfinished, reportsOf}
+use Rattle.rules.specs.Places.{listWords, listFloats}
+use Rattle.rules.specs.RelayPlaces.{relayState, relayStateFloats, relayIn, relayFormed}
+use Rattle.rules.specs.RelayCall.{MoveLent, MoveOutcome, relayOf, moveTable, moveObeys, moveRule, CloseLent, CloseOutcome, closing, closeTable, closeObeys, closeRule}
+use Rattle.encoded.proofs.Back.{relay-back, state-long, floats-long}
+use Rattle.relay_kept.specs.Formed.{Formed}
+use Rattle.relay_kept.specs.Calls.{Sizes, moving, leaves}
+use Rattle.relay_kept.proofs.Rows.{all-pass, hold-none, is-exactly}
+use Rattle.relay_kept.proofs.Tested.{fitting, formed-encoded}
+
+module _ {n k : ℕ} (Z : Sizes n k) (r : Relay) (F : Formed n k r) where
+  back : relayIn n k (relayState k r) (relayStateFloats k r) ≡ r
+  back = relay-back n k r (fitting r F)
+
+  long-us : notExactly (relayWords n k) (length (relayState k r)) ≡ false
+  long-us = is-exactly (relayWords n k) (length (relayState k r)) (state-long n k r (fitting r F))
+
+  long-fs : notExactly (relayFloats n k) (length (relayStateFloats k r)) ≡ false
+  long-fs = is-exactly (relayFloats n k) (length (relayStateFloats k r)) (floats-long n k r (fitting r F))
+
+  formed-not : not (relayFormed n k (relayState k r) (relayStateFloats k r)) ≡ false
+  formed-not = rw (formed-encoded r F)
+
+  -- "no order of moves is ever refused with 12, and a move of an unfinished job always succeeds"
+  pub move-passes : (i : ℕ) → i < length (r .jobs) → isFinished (jobAt r i) ≡ false → decide (moveTable (moving n k r i)) ≡ passed
+  unfolding moveTable moveRows row2 row4 row6 row12 row13
+  move-passes i h f =
+      all-pass (moveTable (moving n k r i)) (
+        Z .nodes,
+        (
+          hold-none (outside 1 most k ∷ []) (Z .size, tt),
+          (
+            hold-none (notExactly (relayWords n k) (length (relayState k r)) ∷ notExactly (relayFloats n k) (length (relayStateFloats k r)) ∷ []) (long-us, (long-fs, tt)),
+            (formed-not, (rw (back, lt-leb (length (r .jobs)) i h, f), tt)),
+          ),
+        ),
+      )
+
+  pub move-leaves : (i : ℕ) → i < length (r .jobs) → isFinished (jobAt r i) ≡ false → moveRule (moving n k r i) ≡ leaves k (moved k r i)
+  unfolding moveRule moveObeys
+  move-leaves i h f = rw (move-passes i h f) (ap (λ (x : Relay). leaves k (moved k x i)) back)
+
+  -- a close that finds every job finished
+  module _ (nodes : List ℕ) (distances : List Float) (reports : List ℕ) (ns : length nodes ≡ n * k) (ds : length distances ≡ n * k) (rs : length reports ≡ 128) where
+    abbrev pub closed : CloseLent
+    closed = record { n = n; k = k; state-u = relayState k r; state-f = relayStateFloats k r; nodes = nodes; distances = distances; reports = reports }
+
+    pub close-passes : length (r .jobs) ≤ lowestUnfinished r → decide (closeTable closed) ≡ passed
+    unfolding closeTable closeRows row2 row4 row6 row12 row13
+    close-passes u =
+        all-pass (closeTable closed) (
+          Z .nodes,
+          (
+            hold-none (outside 1 most k ∷ []) (Z .size, tt),
+            (
+              hold-none
+                  (notExactly (relayWords n k) (length (relayState k r)) ∷ notExactly (relayFloats n k) (length (relayStateFloats k r)) ∷ notExactly (n * k) (length nodes)
+                  ∷ notExactly (n * k) (length distances) ∷ notExactly 128 (length reports) ∷ [])
+                  (long-us, (long-fs, (is-exactly (n * k) (length nodes) ns, (is-exactly (n * k) (length distances) ds, (is-exactly 128 (length reports) rs, tt))))),
+              (formed-not, (rw (back, le-ltb (lowestUnfinished r) (length (r .jobs)) u), tt)),
+            ),
+          ),
+        )
+
+    pub close-gives :
+        length (r .jobs) ≤ lowestUnfinished r
+        → closeRule closed
+        ≡ record {
+          said = noRefusal;
+          nodes = listWords (r .lists);
+          distances = listFloats (r .lists);
+          reports = over (length (reportsOf (r .jobs))) (reportsOf (r .jobs)) reports;
+        }
+    unfolding closeRule closeObeys
+    close-gives u = rw (close-passes u, back)
