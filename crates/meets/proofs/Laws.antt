@@ -1,28 +1,28 @@
 -- An offer, an update, and a pair that meets, in a descent's state. Assumes nothing.
 use mathlib.Core.Path.{_≡_, refl, sym, ap, ap₂, _∙_}
 use mathlib.Core.Bool.{Bool, true, false, cond}
-use mathlib.Core.List.{List, []}
-use Prim.Native.Nat.{ℕ, suc, _+_, _-_, _*_, _≤_, _<_}
-use native.Mathlib.Nat.{suc-mul, mul-le-mul-right, mul-le-mul}
+use mathlib.Core.List.{List}
+use Prim.Native.Nat.{ℕ, suc, _+_, _*_, _≤_, _<_}
+use native.Mathlib.Nat.{mul-le-mul-right, mul-le-mul}
 use native.Mathlib.Omega.{arith}
 use borrow.Author.Tests.{eq-eqb, ne-eqb}
 use borrow.Rule.Slice.PartMut.{putMid}
 use lib.Dec.{eqb}
-use lib.ListN.{length, take, drop, set}
+use lib.ListN.{length, set}
 use lib.Ieee.{Float}
 use Rattle.rules.specs.declared.Neighbor.{Neighbor}
 use Rattle.rules.specs.Build.{Between}
 use Rattle.rules.specs.Loops.{part}
-use Rattle.rules.specs.Lists.{neighbor, entries}
+use Rattle.rules.specs.Lists.{neighbor}
 use Rattle.rules.specs.Offers.{offer}
-use Rattle.rules.specs.Descent.{Met, listAt, pair, offerTo, update, visit, meet}
+use Rattle.rules.specs.Descent.{pair, offerTo, update, visit, meet}
 use Rattle.rules.specs.Places.{listsIn}
 use Rattle.buffers.specs.Area.{area}
 use Rattle.buffers.proofs.Places.{length-area, put-length}
 use Rattle.lists.proofs.Plain.{drop-later}
 use Rattle.steps.specs.Steps.{OfferedTo}
 use Rattle.visits.specs.Marks as visits
-use Rattle.meets.specs.Meets.{OfferedIn, Updated, Game, Holds, Does, marksAt}
+use Rattle.meets.specs.Meets.{OfferedIn, Updated, Does, marksAt}
 use Rattle.meets.proofs.Lists.{inside, list-in, lists-front, lists-put, put-behind}
 
 -- ---- where node u's list lies

@@ -12,11 +12,9 @@ use lib.Dec.{eqb, ltb}
 use lib.ListN.{length, take, drop, getD, set, length-set}
 use lib.Seq.{ext-getD, take-add, drop-at, length-take-le, take-take}
 use lib.Ieee.{Float}
-use Rattle.rules.specs.declared.Neighbor.{Neighbor}
 use Rattle.rules.specs.Loops.{each, part}
 use Rattle.rules.specs.Lists.{entries}
 use Rattle.rules.specs.Places.{listsIn}
-use Rattle.buffers.specs.Area.{area}
 use Rattle.lists.proofs.Plain.{drop-later}
 use Rattle.buffers.proofs.Places.{put-area, put-low, put-high}
 use Rattle.visits.proofs.Flags.{ones, length-ones, getD-ones, getD-changed}

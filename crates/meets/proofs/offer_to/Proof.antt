@@ -2,7 +2,7 @@
 use mathlib.Core.Path.{_≡_}
 use Prim.Native.Nat.{_+_, _-_, _*_}
 use native.Mathlib.Omega.{arith}
-use Rattle.meets.proofs.Laws.{Where, where-is, offered-in}
+use Rattle.meets.proofs.Laws.{where-is, offered-in}
 use borrow.Author.Needs.{needs}
 use Rattle.meets.proofs.offer_to.Statement.{statement}
 use Rattle.meets.proofs.offer_to.Tie as tie
