@@ -12,10 +12,10 @@ use Rattle.rules.specs.Relay.{Relay, moved}
 use Rattle.rules.specs.RelayPlaces.{relayState, relayStateFloats}
 use Rattle.rules.specs.RelayCall.{OpenLent, openTable, openedOn, openObeys, openRule, MoveOutcome, moveRule}
 use Rattle.lists.specs.All.{All}
-use Rattle.formed.specs.Formed.{Formed}
-use Rattle.formed.specs.Calls.{Sizes, moving}
-use Rattle.formed.proofs.Calls.{move-leaves, move-refused}
-use Rattle.formed.proofs.Opening.{open-formed, passed-open}
+use Rattle.relay_kept.specs.Formed.{Formed}
+use Rattle.relay_kept.specs.Calls.{Sizes, moving}
+use Rattle.relay_kept.proofs.Calls.{move-leaves, move-refused}
+use Rattle.relay_kept.proofs.Opening.{open-formed, passed-open}
 use Rattle.orders.specs.Runs.{idle, movedIf, ran}
 use Rattle.orders.specs.Demand3.{Opens, State, atOpening, moveOf, afterMove, after}
 use Rattle.orders.proofs.Runs.{idle-false, if-formed}

@@ -15,7 +15,7 @@ use Rattle.rules.specs.Refusals.{jobCount}
 use Rattle.rules.specs.Relay.{fresh, stepsOf, Job, Relay, isFinished, noJob, jobAt, jobOf, opened, moved}
 use Rattle.rules.specs.RelayCall.{OpenLent, openedOn}
 use Rattle.encoded.proofs.Rows.{length-ones, getD-ones}
-use Rattle.formed.specs.Halves.{halfAt, jobAfter}
+use Rattle.relay_kept.specs.Halves.{halfAt, jobAfter}
 use Rattle.orders.specs.Runs.{idle, ran, count, stepsDone}
 use Rattle.orders.specs.Demand3.{pairs, Finishes, inTurn}
 use Rattle.orders.proofs.Runs.{finished-steps, steps-finished, ran-keeps, ran-length, ran-steps, moved-same, moved-other}

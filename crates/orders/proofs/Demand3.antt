@@ -29,11 +29,11 @@ use Rattle.lists.proofs.Laws.{holdable-append}
 use Rattle.lists.proofs.Plain.{all-of}
 use Rattle.encoded.specs.Words.{Rows}
 use Rattle.encoded.proofs.Lists.{lists-whole}
-use Rattle.formed.specs.Formed.{Formed}
-use Rattle.formed.specs.Halves.{target, entryOf, stageOf}
-use Rattle.formed.proofs.Rows.{all-fail}
-use Rattle.formed.proofs.Calls.{move-leaves, move-refused, close-gives}
-use Rattle.formed.proofs.Opening.{passed-open}
+use Rattle.relay_kept.specs.Formed.{Formed}
+use Rattle.relay_kept.specs.Halves.{target, entryOf, stageOf}
+use Rattle.relay_kept.proofs.Rows.{all-fail}
+use Rattle.relay_kept.proofs.Calls.{move-leaves, move-refused, close-gives}
+use Rattle.relay_kept.proofs.Opening.{passed-open}
 use Rattle.orders.specs.Runs.{idle, ran, count}
 use Rattle.orders.specs.Least.{IsLeast}
 use Rattle.orders.specs.Demand3.{Opens, pairs, u, v, apart, held, offered, State, moveOf, after, Finishes, Room, closed, listed, StandsIn, Finished, Demand3}

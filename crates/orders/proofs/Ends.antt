@@ -19,8 +19,8 @@ use Rattle.rules.specs.RelayCall.{OpenLent, openedOn}
 use Rattle.lists.specs.All.{All}
 use Rattle.lists.proofs.Laws.{insertAll-ascending}
 use Rattle.encoded.proofs.Same.{both}
-use Rattle.formed.specs.Formed.{Formed}
-use Rattle.formed.proofs.Jobs.{pending-popped}
+use Rattle.relay_kept.specs.Formed.{Formed}
+use Rattle.relay_kept.proofs.Jobs.{pending-popped}
 use Rattle.orders.specs.Steps.{waits, waiting, leftFirst, leftSecond, left}
 use Rattle.orders.specs.Demand3.{u, v, apart, held, offers, offered, pairs}
 use Rattle.orders.proofs.Kept.{goalOf}

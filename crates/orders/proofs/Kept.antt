@@ -12,10 +12,10 @@ use Rattle.rules.specs.Descent.{listAt}
 use Rattle.rules.specs.Relay.{Stage, isPopped, Job, Relay, nextStage, nextList, equalNodes, jobAt, moved}
 use Rattle.neighbor.specs.Holdable.{Holdable}
 use Rattle.lists.proofs.Laws.{same-insertAll}
-use Rattle.formed.specs.Formed.{ListFormed, JobFormed, Formed}
-use Rattle.formed.specs.Halves.{target, entryOf, stageOf, halfAt, found, relayAfter}
-use Rattle.formed.proofs.Jobs.{parts, stage-parts}
-use Rattle.formed.proofs.Kept.{moved-is, offer-held, job-formed, target-below, room-before, list-after, other-after, after-formed}
+use Rattle.relay_kept.specs.Formed.{ListFormed, JobFormed, Formed}
+use Rattle.relay_kept.specs.Halves.{target, entryOf, stageOf, halfAt, found, relayAfter}
+use Rattle.relay_kept.proofs.Jobs.{parts, stage-parts}
+use Rattle.relay_kept.proofs.Kept.{moved-is, offer-held, job-formed, target-below, room-before, list-after, other-after, after-formed}
 use Rattle.orders.specs.Steps.{waiting, left}
 use Rattle.orders.proofs.Steps.{step-keeps}
 use Rattle.orders.proofs.Waiting.{leftAt, rest, left-after, left-before, held-left, pushed-first}

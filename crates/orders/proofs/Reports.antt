@@ -26,9 +26,9 @@ use Rattle.lists.specs.All.{All}
 use Rattle.lists.proofs.Laws.{holdable-insert, holdable-at, length-insert}
 use Rattle.lists.proofs.Plain.{all-at, all-take}
 use Rattle.encoded.proofs.Same.{both}
-use Rattle.formed.specs.Formed.{Formed}
-use Rattle.formed.specs.Halves.{target, entryOf, stageOf, withStage, halfAt, found, jobAfter}
-use Rattle.formed.proofs.Kept.{moved-formed, job-formed, target-below, room-before, offer-held}
+use Rattle.relay_kept.specs.Formed.{Formed}
+use Rattle.relay_kept.specs.Halves.{target, entryOf, stageOf, withStage, halfAt, found, jobAfter}
+use Rattle.relay_kept.proofs.Kept.{moved-formed, job-formed, target-below, room-before, offer-held}
 use Rattle.orders.specs.Steps.{lookTakes, left}
 use Rattle.orders.specs.Runs.{ran}
 use Rattle.orders.proofs.Kept.{goalOf, moved-keeps}

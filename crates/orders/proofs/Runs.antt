@@ -12,9 +12,9 @@ use Rattle.rules.specs.declared.Neighbor.{Neighbor}
 use Rattle.rules.specs.Loops.{through, firstFrom}
 use Rattle.rules.specs.Relay.{Stage, fresh, looked, pushed, measured, popped, stepsOf, isPopped, Job, Relay, nextStage, equalNodes, isFinished, noJob, jobAt, moved, lowestUnfinished}
 use Rattle.rules.proofs.Loops.{first-holds}
-use Rattle.formed.specs.Formed.{Formed}
-use Rattle.formed.specs.Halves.{entryOf, stageOf, withStage, halfAt, found, relayAfter, jobAfter}
-use Rattle.formed.proofs.Kept.{moved-is, moved-formed}
+use Rattle.relay_kept.specs.Formed.{Formed}
+use Rattle.relay_kept.specs.Halves.{entryOf, stageOf, withStage, halfAt, found, relayAfter, jobAfter}
+use Rattle.relay_kept.proofs.Kept.{moved-is, moved-formed}
 use Rattle.orders.specs.Runs.{idle, movedIf, ran, count, stepsDone}
 use Rattle.orders.proofs.Kept.{goalOf, moved-keeps}
 

@@ -23,7 +23,7 @@ use Rattle.neighbor.proofs.Order.{asymmetric}
 use Rattle.lists.specs.Ascending.{AllHoldable, Ascending}
 use Rattle.lists.proofs.Laws.{take-before, place-behind, holdable-at}
 use Rattle.encoded.proofs.Same.{both}
-use Rattle.formed.specs.Formed.{ListFormed}
+use Rattle.relay_kept.specs.Formed.{ListFormed}
 use Rattle.orders.specs.Steps.{lookTakes, popLast, waits, waiting}
 
 -- ---- a look

@@ -16,9 +16,9 @@ use Rattle.lists.specs.Ascending.{AllHoldable, Perm, same, next, exchange, chai
 use Rattle.lists.specs.All.{All}
 use Rattle.lists.proofs.Perm.{perm-front, perm-end, perm-append}
 use Rattle.lists.proofs.Laws.{holdable-append, insertAll-append, insertAll-perm}
-use Rattle.formed.specs.Formed.{JobFormed}
-use Rattle.formed.specs.Halves.{target, entryOf, stageOf, withStage, others}
-use Rattle.formed.proofs.Jobs.{same-stage, others-set}
+use Rattle.relay_kept.specs.Formed.{JobFormed}
+use Rattle.relay_kept.specs.Halves.{target, entryOf, stageOf, withStage, others}
+use Rattle.relay_kept.proofs.Jobs.{same-stage, others-set}
 use Rattle.orders.specs.Steps.{waits, waiting, leftFirst, leftSecond, leftBeside, left}
 
 -- what the half b of a job at stage s has still to push to w's list

@@ -8,7 +8,7 @@ use lib.Ieee.{lt}
 use Rattle.rules.specs.declared.Neighbor.{Neighbor}
 use Rattle.rules.specs.Search.{farthest}
 use Rattle.rules.specs.Relay.{Stage, fresh, looked, pushed, measured, popped, Job, equalNodes, forU, forV}
-use Rattle.formed.specs.Halves.{others}
+use Rattle.relay_kept.specs.Halves.{others}
 
 -- "taken up unless the distance is greater than the list's last"
 unfoldable pub lookTakes : Neighbor → List Neighbor → Bool

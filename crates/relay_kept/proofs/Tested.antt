@@ -28,10 +28,10 @@ use Rattle.encoded.proofs.Same.{both, together, same-words, words-same, same-fl
 use Rattle.encoded.proofs.Rows.{length-ones, getD-ones, all-ones, all-part, all-getD}
 use Rattle.encoded.proofs.Jobs.{job-readable}
 use Rattle.encoded.proofs.Back.{relay-back}
-use Rattle.formed.specs.Formed.{ListFormed, JobFormed, Formed}
-use Rattle.formed.proofs.Rows.{inside}
-use Rattle.formed.proofs.Lists.{list-formed, formed-list, lists-formed, formed-lists}
-use Rattle.formed.proofs.Jobs.{parts, holdable-job, jobs-formed, formed-jobs, pending-le}
+use Rattle.relay_kept.specs.Formed.{ListFormed, JobFormed, Formed}
+use Rattle.relay_kept.proofs.Rows.{inside}
+use Rattle.relay_kept.proofs.Lists.{list-formed, formed-list, lists-formed, formed-lists}
+use Rattle.relay_kept.proofs.Jobs.{parts, holdable-job, jobs-formed, formed-jobs, pending-le}
 
 -- ---- lengths
 

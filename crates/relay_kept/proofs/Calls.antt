@@ -18,10 +18,10 @@ use Rattle.rules.specs.RelayPlaces.{relayState, relayStateFloats, relayIn, rela
 use Rattle.rules.specs.RelayCall.{MoveLent, MoveOutcome, relayOf, moveTable, moveObeys, moveRule, CloseLent, CloseOutcome, closing, closeTable, closeObeys, closeRule}
 use Rattle.rules.proofs.Tables.{decide-append, held}
 use Rattle.encoded.proofs.Back.{relay-back, state-long, floats-long}
-use Rattle.formed.specs.Formed.{Formed}
-use Rattle.formed.specs.Calls.{Sizes, moving, leaves}
-use Rattle.formed.proofs.Rows.{all-pass, hold-none, is-exactly}
-use Rattle.formed.proofs.Tested.{fitting, formed-encoded}
+use Rattle.relay_kept.specs.Formed.{Formed}
+use Rattle.relay_kept.specs.Calls.{Sizes, moving, leaves}
+use Rattle.relay_kept.proofs.Rows.{all-pass, hold-none, is-exactly}
+use Rattle.relay_kept.proofs.Tested.{fitting, formed-encoded}
 
 module _ {n k : ℕ} (Z : Sizes n k) (r : Relay) (F : Formed n k r) where
   back : relayIn n k (relayState k r) (relayStateFloats k r) ≡ r

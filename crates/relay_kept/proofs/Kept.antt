@@ -17,10 +17,11 @@ use Rattle.neighbor.specs.Holdable.{Holdable}
 use Rattle.lists.proofs.Laws.{length-insert}
 use Rattle.lists.proofs.Plain.{all-at}
 use Rattle.encoded.proofs.Same.{both, together}
-use Rattle.formed.specs.Formed.{ListFormed, JobFormed, Formed}
-use Rattle.formed.specs.Halves.{target, entryOf, stageOf, withStage, halfAt, found, jobAfter, relayAfter, others, pendingJob, pendingBeside}
-use Rattle.formed.proofs.Lists.{entry-formed, formed-insert, formed-take}
-use Rattle.formed.proofs.Jobs.{Parts, parts, near-fit, stage-parts, target-in, staged, pending-staged, pending-at-stage, others-set, all-set, pending-others}
+use Rattle.relay_kept.specs.Formed.{ListFormed, JobFormed, Formed}
+use Rattle.relay_kept.specs.Halves.{target, entryOf, stageOf, withStage, halfAt, found, jobAfter, relayAfter, others, pendingJob, pendingBeside}
+use Rattle.steps.proofs.Formed.{entry-formed}
+use Rattle.relay_kept.proofs.Lists.{formed-insert, formed-take}
+use Rattle.relay_kept.proofs.Jobs.{Parts, parts, near-fit, stage-parts, target-in, staged, pending-staged, pending-at-stage, others-set, all-set, pending-others}
 
 -- ---- one step of an offer of e to the list l, for which others have P entries to pop
 

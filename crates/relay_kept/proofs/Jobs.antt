@@ -18,8 +18,8 @@ use Rattle.neighbor.proofs.Bits.{holdable-fit}
 use Rattle.lists.specs.All.{All}
 use Rattle.encoded.specs.Words.{Readable}
 use Rattle.encoded.proofs.Same.{both, together}
-use Rattle.formed.specs.Formed.{JobFormed}
-use Rattle.formed.specs.Halves.{stageOf, target, withStage, others, pendingJob, pendingBeside}
+use Rattle.relay_kept.specs.Formed.{JobFormed}
+use Rattle.relay_kept.specs.Halves.{stageOf, target, withStage, others, pendingJob, pendingBeside}
 
 -- ---- the parts of the test of one job
 

@@ -1,0 +1,2 @@
+-- What one step of half a job leaves.
+pub mod Halves

@@ -1,0 +1,1 @@
+// Laws of well-formed relays, in proofs/. This crate has no code.

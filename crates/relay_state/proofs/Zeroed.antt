@@ -1,0 +1,89 @@
+-- Zeros are zeros of a number, and what is a value of binary32 in lists made of such. Assumes nothing.
+use mathlib.Core.Path.{_≡_, refl, sym, ap, _∙_}
+use mathlib.Core.Bool.{Bool, true, _&&_}
+use mathlib.Core.List.{List, [], _∷_, _++_, map}
+use Prim.Native.Nat.{ℕ, zero, suc, _-_}
+use borrow.Author.Tests.{eqb-true}
+use lib.Dec.{T, eqb}
+use lib.ListN.{length, take, drop, replicate}
+use lib.Ieee.{Float, binary32, toBits, ofBits, fits}
+use lib.Ieee.Bits.{ofBits-fits}
+use Rattle.rules.specs.declared.Neighbor.{Neighbor}
+use Rattle.rules.specs.Distance.{zero32}
+use Rattle.rules.specs.Lists.{entries, distancesOf}
+use Rattle.rules.specs.Relay.{Job}
+use Rattle.rules.specs.Places.{padded}
+use Rattle.rules.specs.RelayPlaces.{roomFloats, jobsFloats}
+use Rattle.lists.specs.All.{All}
+use Rattle.lists.proofs.Plain.{all-append}
+use Rattle.encoded.specs.Words.{Binary32}
+use Rattle.encoded.proofs.Same.{bits-same}
+use Rattle.zeros.specs.Zeros.{zeros}
+use Rattle.steps.proofs.Formed.{both}
+
+-- ---- zeros
+
+pub zeros-are : (xs : List ℕ) → zeros xs ≡ true → xs ≡ replicate (length xs) 0
+unfolding zeros
+zeros-are [] h = refl
+zeros-are (x ∷ xs) h =
+    let p = both (eqb x 0) (zeros xs) h in
+    let e = eqb-true x 0 (p .0) in
+    let f = zeros-are xs (p .1) in
+    (cc)
+
+pub are-zeros : (m : ℕ) → zeros (replicate m 0) ≡ true
+unfolding zeros
+are-zeros zero = refl
+are-zeros (suc m) = are-zeros m
+
+pub floats-are : (xs : List Float) → Binary32 xs → zeros (map (toBits binary32) xs) ≡ true → xs ≡ replicate (length xs) zero32
+unfolding zeros toBits ofBits
+floats-are [] B h = refl
+floats-are (x ∷ xs) B h =
+    let p = both (eqb (toBits binary32 x) 0) (zeros (map (toBits binary32) xs)) h in
+    let e : x ≡ zero32 = bits-same x zero32 (B .0) (ofBits-fits binary32 0) (eqb-true (toBits binary32 x) 0 (p .0)) in
+    let f = floats-are xs (B .1) (p .1) in
+    (cc)
+
+pub are-floats : (m : ℕ) → zeros (map (toBits binary32) (replicate m zero32)) ≡ true
+unfolding zeros toBits ofBits
+are-floats zero = refl
+are-floats (suc m) = are-floats m
+
+-- ---- values of binary32
+
+pub all-drop : {A : Type 0} (P : A → Type 0) (m : ℕ) (xs : List A) → All P xs → All P (drop m xs)
+all-drop P zero xs X = X
+all-drop P (suc m) [] X = tt
+all-drop P (suc m) (x ∷ xs) X = all-drop P m xs (X .1)
+
+binary-zeros : (m : ℕ) → Binary32 (replicate m zero32)
+binary-zeros zero = tt
+binary-zeros (suc m) = (ofBits-fits binary32 0, binary-zeros m)
+
+binary-padded : (m : ℕ) (xs : List Float) → Binary32 xs → Binary32 (padded m zero32 xs)
+unfolding padded
+binary-padded m xs X = all-append (λ (x : Float). T (fits binary32 x)) xs (replicate (m - length xs) zero32) X (binary-zeros (m - length xs))
+
+pub binary-entries : (m : ℕ) (ns : List ℕ) (ds : List Float) → Binary32 ds → Binary32 (distancesOf (entries m ns ds))
+unfolding entries distancesOf
+binary-entries zero ns ds D = tt
+binary-entries (suc m) [] ds D = tt
+binary-entries (suc m) (n ∷ ns) [] D = tt
+binary-entries (suc m) (n ∷ ns) (d ∷ ds) D = (D .0, binary-entries m ns ds (D .1))
+
+-- the floats of a state
+pub binary-rooms : (m : ℕ) (ls : List (List Neighbor)) → All (λ (l : List Neighbor). Binary32 (distancesOf l)) ls → Binary32 (roomFloats m ls)
+unfolding roomFloats
+binary-rooms m [] L = tt
+binary-rooms m (l ∷ ls) L =
+    all-append (λ (x : Float). T (fits binary32 x)) (padded m zero32 (distancesOf l)) (roomFloats m ls) (binary-padded m (distancesOf l) (L .0)) (binary-rooms m ls (L .1))
+
+jobs-binary : (js : List Job) → All (λ (j : Job). T (fits binary32 (j .distance))) js → Binary32 (jobsFloats js)
+unfolding jobsFloats
+jobs-binary [] J = tt
+jobs-binary (j ∷ js) J = (J .0, jobs-binary js (J .1))
+
+pub binary-jobs : (m : ℕ) (js : List Job) → All (λ (j : Job). T (fits binary32 (j .distance))) js → Binary32 (padded m zero32 (jobsFloats js))
+binary-jobs m js J = binary-padded m (jobsFloats js) (jobs-binary js J)

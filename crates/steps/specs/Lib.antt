@@ -1,0 +1,2 @@
+-- What an offer leaves in the two slices of a list.
+pub mod Steps
