@@ -22,7 +22,7 @@ use Rattle.encoded.proofs.Same.{both}
 use Rattle.relay_kept.specs.Formed.{Formed}
 use Rattle.relay_kept.proofs.Jobs.{pending-popped}
 use Rattle.orders.specs.Steps.{waits, waiting, leftFirst, leftSecond, left}
-use Rattle.orders.specs.Demand3.{u, v, apart, held, offers, offered, pairs}
+use Rattle.orders.specs.Demand3.{u, v, apart, held, offersOf, offers, offered, pairs}
 use Rattle.orders.proofs.Kept.{goalOf}
 
 -- ---- at opening
@@ -36,7 +36,7 @@ left-snoc w (x ∷ js) j =
 
 module _ (l : OpenLent) (w : ℕ) where
   left-job : (i : ℕ) → leftFirst w (jobOf (between (l .lanes) (l .dimension)) (l .jobs) i) ++ leftSecond w (jobOf (between (l .lanes) (l .dimension)) (l .jobs) i) ≡ offers l w i
-  unfolding offers jobOf waits
+  unfolding offersOf jobOf waits
   left-job i = go (eqb (u l i) (v l i)) (eqb (u l i) w) (eqb (v l i) w)
     where
       go : (a b c : Bool)

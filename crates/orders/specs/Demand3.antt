@@ -20,6 +20,7 @@ use Rattle.rules.specs.Loops.{each, through}
 use Rattle.rules.specs.Distance.{zero32, nodesApart, between}
 use Rattle.rules.specs.Lists.{neighbor, least}
 use Rattle.rules.specs.Refusals.{noRefusal, code, jobCount, jobU, jobV}
+use Rattle.rules.specs.Build.{Between}
 use Rattle.rules.specs.Descent.{listAt}
 use Rattle.rules.specs.Places.{listsIn}
 use Rattle.rules.specs.RelayCall.{OpenLent, openRule, MoveOutcome, moveRule, CloseOutcome, closeRule}
@@ -53,11 +54,13 @@ held l w = listAt (listsIn (l .n) (l .k) (l .nodes) (l .distances)) w
 
 -- ---- "A node paired with itself offers nothing."
 
--- what pair i offers to w's list: v to u's, and u to v's
-unfoldable pub offers : OpenLent → ℕ → ℕ → List Neighbor
-offers l w i =
-    cond (eqb (u l i) (v l i)) []
-    (cond (eqb (u l i) w) (neighbor (v l i) (apart l i) ∷ []) [] ++ cond (eqb (v l i) w) (neighbor (u l i) (apart l i) ∷ []) [])
+-- what nodes u and v, at d of them, offer to w's list: v to u's, and u to v's
+unfoldable pub offersOf : Between → ℕ → ℕ → ℕ → List Neighbor
+offersOf d w u v = cond (eqb u v) [] (cond (eqb u w) (neighbor v (d u v) ∷ []) [] ++ cond (eqb v w) (neighbor u (d u v) ∷ []) [])
+
+-- what pair i offers to it
+abbrev pub offers : OpenLent → ℕ → ℕ → List Neighbor
+offers l w i = offersOf (between (l .lanes) (l .dimension)) w (u l i) (v l i)
 
 -- what was offered to it
 unfoldable pub offered : OpenLent → ℕ → List Neighbor
