@@ -32,7 +32,7 @@ two-pos : 0 < 2
 two-pos = zero-lt-suc 1
 
 -- a bit behind the lowest is one of the word halved
-bit-half : (w k : ℕ) → bitOf w (suc k) ≡ bitOf (w / 2) k
+pub bit-half : (w k : ℕ) → bitOf w (suc k) ≡ bitOf (w / 2) k
 bit-half w k = ap (λ (x : ℕ). eqb (x % 2) 1) (ap (λ (j : ℕ). w / 2 ^ j) (omega arith) ∙ sym (shr-shr w 1 k))
 
 bit-power : (m k : ℕ) → bitOf (2 ^ m) k ≡ eqb m k

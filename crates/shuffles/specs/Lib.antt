@@ -1,0 +1,2 @@
+-- What is kept of a shuffled list.
+pub mod Kept
