@@ -37,14 +37,7 @@ fn counts(words: &[u32], base: usize, n: usize, i: NodeId, v: NodeId, visited: b
 }
 
 // Writes the filled entries of node `i`'s list whose pairs are visited, or those whose are not, to the front of `out`, in order.
-fn gather(
-    words: &[u32],
-    n: usize,
-    k: usize,
-    i: NodeId,
-    visited: bool,
-    out: &mut [u32],
-) -> usize
+fn gather(words: &[u32], n: usize, k: usize, i: NodeId, visited: bool, out: &mut [u32]) -> usize
     requires { ⌜ Lists n k (now words) × (i .0 < n) × (length (now out) ≡ 64) ⌝ }
     ensures { λ r. ⌜ Gathered n k (i .0) visited (now (words .entry)) (now (out .exit)) r ⌝ }
 {

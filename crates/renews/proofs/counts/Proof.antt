@@ -20,24 +20,32 @@ is-visited-requires : tie.Need-is-visited-requires
 is-visited-requires c κs = search needs
 
 returns-2 : tie.Need-returns-2
-returns-2 c =
-    (omega arith, λ flags held at.
-    rw (c .before .if2 .taken) (counted-is _ _ flags _ true true (c .before .before .before .if1 .left) (sym (c .before .before .is-visited .ensures flags held) ∙ c .if3 .taken)))
+returns-2 c = (
+  omega arith,
+  λ flags held at.
+      rw (c .before .if2 .taken) (counted-is _ _ flags _ true true (c .before .before .before .if1 .left) (sym (c .before .before .is-visited .ensures flags held) ∙ c .if3 .taken)),
+)
 
 returns-3 : tie.Need-returns-3
-returns-3 c =
-    (omega arith, λ flags held at.
-    rw (c .before .if2 .taken) (counted-is _ _ flags _ true false (c .before .before .before .if1 .left) (sym (c .before .before .is-visited .ensures flags held) ∙ c .if3 .left)))
+returns-3 c = (
+  omega arith,
+  λ flags held at.
+      rw (c .before .if2 .taken) (counted-is _ _ flags _ true false (c .before .before .before .if1 .left) (sym (c .before .before .is-visited .ensures flags held) ∙ c .if3 .left)),
+)
 
 returns-4 : tie.Need-returns-4
-returns-4 c =
-    (omega arith, λ flags held at.
-    rw (c .before .if2 .left) (counted-is _ _ flags _ false true (c .before .before .before .if1 .left) (sym (c .before .before .is-visited .ensures flags held) ∙ c .if4 .taken)))
+returns-4 c = (
+  omega arith,
+  λ flags held at.
+      rw (c .before .if2 .left) (counted-is _ _ flags _ false true (c .before .before .before .if1 .left) (sym (c .before .before .is-visited .ensures flags held) ∙ c .if4 .taken)),
+)
 
 returns-5 : tie.Need-returns-5
-returns-5 c =
-    (omega arith, λ flags held at.
-    rw (c .before .if2 .left) (counted-is _ _ flags _ false false (c .before .before .before .if1 .left) (sym (c .before .before .is-visited .ensures flags held) ∙ c .if4 .left)))
+returns-5 c = (
+  omega arith,
+  λ flags held at.
+      rw (c .before .if2 .left) (counted-is _ _ flags _ false false (c .before .before .before .if1 .left) (sym (c .before .before .is-visited .ensures flags held) ∙ c .if4 .left)),
+)
 
 pub counts-spec : {M : Type 1} → statement M
 counts-spec =
