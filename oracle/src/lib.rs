@@ -6,8 +6,11 @@ pub mod core;
 pub mod index;
 pub mod local;
 
+pub mod by_hand;
 pub mod cases;
+pub mod compare;
 pub mod make;
 pub mod prng;
 pub mod run;
+pub mod some;
 pub mod text;

@@ -24,7 +24,7 @@ pub fn answer_lines(case: &Case) -> Vec<Line> {
         Case::Search(c) => search(c),
         Case::Descent(c) => descent(c),
         Case::Iterate(c) => iterate(c),
-        Case::Relay(c) => relay(c).lines,
+        Case::Relay(c) => relay_lines(c),
         Case::Links(c) => links(c),
     }
 }
@@ -152,7 +152,14 @@ fn live_rows(c: &Search) -> Vec<Vec<usize>> {
         .collect()
 }
 
-fn search(c: &Search) -> Vec<Line> {
+/// What a search found, and how many nodes it took from its queue.
+pub struct Found {
+    pub nodes: Vec<u32>,
+    pub bits: Vec<u32>,
+    pub takings: usize,
+}
+
+pub fn found(c: &Search) -> Found {
     let params = SSGParams::default().index_size(c.index_size);
     let mut index = index(&c.lanes, &params);
     index.give_graph(MT, live_rows(c));
@@ -162,13 +169,20 @@ fn search(c: &Search) -> Vec<Line> {
     if let Some(node) = branches::first_unfit() {
         panic!("UNFIT INPUT: the distance of node {} and the query", node);
     }
-    let nodes: Vec<u32> = found.iter().map(|f| f.0.idx().unwrap() as u32).collect();
-    let bits: Vec<u32> = found.iter().map(|f| f.1.to_bits()).collect();
+    Found {
+        nodes: found.iter().map(|f| f.0.idx().unwrap() as u32).collect(),
+        bits: found.iter().map(|f| f.1.to_bits()).collect(),
+        takings: index.takings(),
+    }
+}
+
+fn search(c: &Search) -> Vec<Line> {
+    let found = found(c);
     vec![
-        labelled(&[("found", nodes.len())]),
-        line("found_nodes", &nodes),
-        line("found_bits", &bits),
-        labelled(&[("takings", index.takings())]),
+        labelled(&[("found", found.nodes.len())]),
+        line("found_nodes", &found.nodes),
+        line("found_bits", &found.bits),
+        labelled(&[("takings", found.takings)]),
     ]
 }
 
@@ -198,37 +212,65 @@ fn give(handler: &mut Handler, state: &State, n: usize, k: usize) {
     );
 }
 
-fn one_iteration(handler: &mut Handler, draws: &[u32], n: usize) -> Vec<Line> {
+/// One iteration: its counts, and the state it leaves.
+pub struct Iterated {
+    pub cost: usize,
+    pub total_of_new: usize,
+    pub state: State,
+}
+
+fn one_iteration(handler: &mut Handler, draws: &[u32]) -> Iterated {
     rand::lend_draws(draws);
     let total_of_new = handler.iterate();
+    Iterated {
+        cost: *handler.cost(),
+        total_of_new,
+        state: state_of(handler),
+    }
+}
+
+fn iterated_lines(iterated: &Iterated, n: usize) -> Vec<Line> {
     let mut lines = vec![labelled(&[
-        ("cost", *handler.cost()),
-        ("total_of_new", total_of_new),
+        ("cost", iterated.cost),
+        ("total_of_new", iterated.total_of_new),
     ])];
-    lines.extend(state_lines(&state_of(handler), n));
+    lines.extend(state_lines(&iterated.state, n));
     lines
 }
 
-fn descent(c: &Descent) -> Vec<Line> {
+/// The state after begin, and each iteration.
+pub fn descended(c: &Descent) -> (State, Vec<Iterated>) {
     all_pairs_fit(&c.lanes);
-    let n = c.lanes.nodes;
     let nodes = nodes(&c.lanes);
     let mut handler = Handler::new(&nodes, MT, c.k, c.s);
     rand::lend_draws(&c.begin_draws);
     handler.init();
-    let mut lines = state_lines(&state_of(&handler), n);
-    for draws in &c.iteration_draws {
-        lines.extend(one_iteration(&mut handler, draws, n));
+    let begun = state_of(&handler);
+    let draws = c.iteration_draws.iter();
+    let iterated = draws.map(|d| one_iteration(&mut handler, d)).collect();
+    (begun, iterated)
+}
+
+fn descent(c: &Descent) -> Vec<Line> {
+    let n = c.lanes.nodes;
+    let (begun, iterated) = descended(c);
+    let mut lines = state_lines(&begun, n);
+    for one in &iterated {
+        lines.extend(iterated_lines(one, n));
     }
     lines
 }
 
-fn iterate(c: &Iterate) -> Vec<Line> {
+pub fn iterated(c: &Iterate) -> Iterated {
     all_pairs_fit(&c.lanes);
     let nodes = nodes(&c.lanes);
     let mut handler = Handler::new(&nodes, MT, c.k, c.s);
     give(&mut handler, &c.state, c.lanes.nodes, c.k);
-    one_iteration(&mut handler, &c.draws, c.lanes.nodes)
+    one_iteration(&mut handler, &c.draws)
+}
+
+fn iterate(c: &Iterate) -> Vec<Line> {
+    iterated_lines(&iterated(c), c.lanes.nodes)
 }
 
 /// Where a job stands: steps done, and for each half whether it was taken up and whether its measure said yes.
@@ -239,8 +281,9 @@ struct Job {
     over: [bool; 2],
 }
 
+/// Each move's list as the move left it, beside its node; the lists at the end; each job's reports.
 pub struct RelayAnswer {
-    pub lines: Vec<Line>,
+    pub moved: Vec<(usize, Vec<Entry>)>,
     pub lists: Vec<Entry>,
     pub reports: Vec<u32>,
 }
@@ -297,7 +340,7 @@ pub fn relay(c: &Relay) -> RelayAnswer {
     let n = c.lanes.nodes;
     let handler = relay_handler(c, &nodes);
     let mut jobs = vec![Job::default(); c.jobs.len()];
-    let mut lines = Vec::new();
+    let mut moved = Vec::new();
     for (u, v) in &c.jobs {
         if u == v {
             branches::met("relay job with u = v");
@@ -306,8 +349,7 @@ pub fn relay(c: &Relay) -> RelayAnswer {
     for name in &c.moves {
         let (u, v) = c.jobs[*name as usize];
         let touched = step(&handler, u as usize, v as usize, &mut jobs[*name as usize]);
-        let list = plain(&handler.graph()[touched]);
-        lines.push(counted_entries("list", &list, n));
+        moved.push((touched, plain(&handler.graph()[touched])));
     }
     assert!(jobs.iter().all(|j| j.steps == 8), "a job is unfinished");
     let lists: Vec<Entry> = handler.graph().iter().flat_map(|l| plain(l)).collect();
@@ -321,11 +363,21 @@ pub fn relay(c: &Relay) -> RelayAnswer {
         whole_updates(c),
         "the cuts give what hora's update gives"
     );
-    lines.extend(entries("final", &lists, n));
-    lines.push(line("reports", &reports));
     RelayAnswer {
-        lines,
+        moved,
         lists,
         reports,
     }
+}
+
+fn relay_lines(c: &Relay) -> Vec<Line> {
+    let n = c.lanes.nodes;
+    let answer = relay(c);
+    let moved = answer.moved.iter();
+    let mut lines: Vec<Line> = moved
+        .map(|(_, list)| counted_entries("list", list, n))
+        .collect();
+    lines.extend(entries("final", &answer.lists, n));
+    lines.push(line("reports", &answer.reports));
+    lines
 }

@@ -1,0 +1,29 @@
+-- An answer over the C boundary says what the entry's answer says, so the entry's equation holds of it. Assumes nothing.
+use mathlib.Core.Path.{_≡_, ap, _∙_}
+use mathlib.Core.List.{List}
+use Prim.Native.Nat.{ℕ}
+use lib.Ieee.{Float}
+use Rattle.rules.specs.declared.Answer.{Answer}
+use Rattle.rules.specs.declared.SearchAnswer.{SearchAnswer}
+use Rattle.rules.specs.Refusals.{Code, saidOf}
+use Rattle.rules.specs.BuildCall.{BuildLent}
+use Rattle.rules.specs.SearchCall.{SearchLent, SearchSaid, searchSaid}
+use Rattle.build.specs.Build as build
+use Rattle.search.specs.Search as search
+use Rattle.spoonmeadow.specs.declared.Said.{Said}
+use Rattle.spoonmeadow.specs.declared.Found.{Found}
+use Rattle.spoonmeadow.specs.Across.{codeIn, foundIn, Built, Searched}
+
+pub built : {l : BuildLent} {a : Answer} {s : Said} {graph su : List ℕ} {sf : List Float} → codeIn s ≡ saidOf a
+    → build.Built l a graph su sf → Built l s graph su sf
+built {l} {a} {s} {graph} {su} {sf} e b =
+    record { whole = ap (λ (said : Code). record { said = said; graph = graph; scratch-u = su; scratch-f = sf }) e ∙ b .whole }
+
+pub searched : {l : SearchLent} {a : SearchAnswer} {f : Found} {nodes bits su : List ℕ} {sf : List Float} → foundIn f ≡ searchSaid a
+    → search.Searched l a nodes bits su sf → Searched l f nodes bits su sf
+searched {l} {a} {f} {nodes} {bits} {su} {sf} e s =
+    record {
+      whole =
+          ap (λ (said : SearchSaid). record { said = said; result-nodes = nodes; result-bits = bits; scratch-u = su; scratch-f = sf }) e
+          ∙ s .whole;
+    }

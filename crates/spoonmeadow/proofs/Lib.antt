@@ -1,0 +1,2 @@
+-- The laws of the C boundary.
+pub mod Laws

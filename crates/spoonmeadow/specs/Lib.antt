@@ -1,0 +1,2 @@
+-- The entries over the C boundary: what their answers say, and what each leaves.
+pub mod Across

@@ -1,0 +1,157 @@
+// The entries over the C boundary: each is thin over the proved entry and has its equation as its contract.
+ghost use mathlib.Core.Path.{_≡_};
+ghost use Rattle.rules.specs.Refusals.{code, codeOf, saidOf};
+ghost use Rattle.rules.specs.SearchCall.{searchSaid};
+ghost use Rattle.params.specs.Params.{params};
+ghost use Rattle.build.specs.Build.{lent as buildLent};
+ghost use Rattle.search.specs.Search.{lent as searchLent};
+ghost use Rattle.spoonmeadow.specs.Across.{codeIn, foundIn, Built, Searched};
+use params::SsgParams;
+use rules::Answer;
+use rules::Refusal;
+use rules::SearchAnswer;
+
+/// A refusal by its number and two places; all 0 where there is none.
+#[repr(C)]
+pub struct Said {
+    pub refusal: usize,
+    pub first: usize,
+    pub second: usize,
+}
+
+/// What a search says: its refusal, the count of results, and the count of nodes taken from the queue.
+#[repr(C)]
+pub struct Found {
+    pub refusal: usize,
+    pub first: usize,
+    pub second: usize,
+    pub m: usize,
+    pub takings: usize,
+}
+
+fn refused(refusal: usize, first: usize, second: usize) -> Said
+    ensures { λ r. ⌜ codeIn r ≡ code refusal first second ⌝ }
+{
+    Said {
+        refusal,
+        first,
+        second,
+    }
+}
+
+/// A refusal's number and places.
+fn of_refusal(r: Refusal) -> Said
+    ensures { λ s. ⌜ codeIn s ≡ codeOf r ⌝ }
+{
+    match r {
+        Refusal::Dimension => refused(1, 0, 0),
+        Refusal::Nodes => refused(2, 0, 0),
+        Refusal::Lanes => refused(3, 0, 0),
+        Refusal::Parameter => refused(4, 0, 0),
+        Refusal::Threshold => refused(5, 0, 0),
+        Refusal::Buffer => refused(6, 0, 0),
+        Refusal::Root(at) => refused(7, at, 0),
+        Refusal::Query => refused(8, 0, 0),
+        Refusal::Job(at) => refused(9, at, 0),
+        Refusal::Pair(i, j) => refused(10, i.0 as usize, j.0 as usize),
+        Refusal::Draws => refused(11, 0, 0),
+        Refusal::State => refused(12, 0, 0),
+        Refusal::Step(job) => refused(13, job, 0),
+    }
+}
+
+/// What the answer of build, begin, open, a move or a close says.
+fn of_answer(a: Answer) -> Said
+    ensures { λ s. ⌜ codeIn s ≡ saidOf a ⌝ }
+{
+    match a {
+        Answer::Done => refused(0, 0, 0),
+        Answer::Refused(r) => of_refusal(r),
+    }
+}
+
+/// What a search's answer says.
+fn of_search(a: SearchAnswer) -> Found
+    ensures { λ f. ⌜ foundIn f ≡ searchSaid a ⌝ }
+{
+    match a {
+        SearchAnswer::Found { m, takings } => Found {
+            refusal: 0,
+            first: 0,
+            second: 0,
+            m,
+            takings,
+        },
+        SearchAnswer::Refused(r) => {
+            let s = of_refusal(r);
+            Found {
+                refusal: s.refusal,
+                first: s.first,
+                second: s.second,
+                m: 0,
+                takings: 0,
+            }
+        }
+    }
+}
+
+/// `build` for C: the parameters one by one.
+#[no_mangle]
+pub extern "C" fn spoonmeadow_build(
+    init_k: usize,
+    index_size: usize,
+    neighbor_neighbor_size: usize,
+    threshold: f32,
+    dimension: usize,
+    n: usize,
+    lanes: &[f32],
+    graph: &mut [u32],
+    scratch_u: &mut [u32],
+    scratch_f: &mut [f32],
+) -> Said
+    ensures { λ r. ⌜ Built (buildLent (params threshold «init_k» «index_size» «neighbor_neighbor_size») dimension n (now (lanes .entry)) (now (graph .entry)) (now («scratch_u» .entry)) (now («scratch_f» .entry))) r (now (graph .exit)) (now («scratch_u» .exit)) (now («scratch_f» .exit)) ⌝ }
+{
+    let params = SsgParams {
+        threshold,
+        init_k,
+        index_size,
+        neighbor_neighbor_size,
+    };
+    let a = build::build(params, dimension, n, lanes, graph, scratch_u, scratch_f);
+    of_answer(a)
+}
+
+/// `search` for C.
+#[no_mangle]
+pub extern "C" fn spoonmeadow_search(
+    dimension: usize,
+    n: usize,
+    lanes: &[f32],
+    graph: &[u32],
+    index_size: usize,
+    roots: &[u32],
+    query: &[f32],
+    k: usize,
+    result_nodes: &mut [u32],
+    result_bits: &mut [u32],
+    scratch_u: &mut [u32],
+    scratch_f: &mut [f32],
+) -> Found
+    ensures { λ r. ⌜ Searched (searchLent dimension n (now (lanes .entry)) (now (graph .entry)) «index_size» (now (roots .entry)) (now (query .entry)) k (now («result_nodes» .entry)) (now («result_bits» .entry)) (now («scratch_u» .entry)) (now («scratch_f» .entry))) r (now («result_nodes» .exit)) (now («result_bits» .exit)) (now («scratch_u» .exit)) (now («scratch_f» .exit)) ⌝ }
+{
+    let a = search::search(
+        dimension,
+        n,
+        lanes,
+        graph,
+        index_size,
+        roots,
+        query,
+        k,
+        result_nodes,
+        result_bits,
+        scratch_u,
+        scratch_f,
+    );
+    of_search(a)
+}

@@ -1,0 +1,120 @@
+/* Spoonmeadow for C: the entries of libspoonmeadow.a (`rt staticlib spoonmeadow`), each proved equal to the rulebook.
+
+   Nothing is kept between calls, nothing is allocated, and no call blocks or starts a thread. Everything is lent:
+
+   - A slice is a pointer and the count of its elements. The pointer is not null and is aligned for its element, also where the count is 0,
+     and the count is the number of elements that may be read (and, where it is not const, written) behind it.
+   - The slices of one call must not overlap, except two that are both const.
+   - Beyond this any contents and any numbers may be lent: every call ends, and bad input gets a refusal.
+   - A refusal leaves every lent byte as it was, and its counts are 0. Search's SPOONMEADOW_UNFIT alone leaves its scratch all zero.
+   - After success scratch is all zero, all of it, also where it is longer than asked. What it held before never matters.
+   - A const slice is never written.
+
+   Distances are binary32 and cross this boundary by their bits; for fit distances the order of bits is the order of distances. */
+#ifndef SPOONMEADOW_H
+#define SPOONMEADOW_H
+
+#include <stddef.h>
+#include <stdint.h>
+
+#ifdef __cplusplus
+extern "C" {
+#endif
+
+/* Refusals. Of several that hold, a call gives the lowest. Places not named are 0. */
+enum {
+    SPOONMEADOW_DONE = 0,      /* no refusal */
+    SPOONMEADOW_DIMENSION = 1, /* dimension outside 1 to 64 */
+    SPOONMEADOW_NODES = 2,     /* n outside its range */
+    SPOONMEADOW_LANES = 3,     /* the lane slice is not n times dimension long */
+    SPOONMEADOW_PARAMETER = 4, /* a whole-number parameter is outside its range */
+    SPOONMEADOW_THRESHOLD = 5, /* threshold NaN or outside -1 to 1 */
+    SPOONMEADOW_BUFFER = 6,    /* a lent buffer has the wrong length */
+    SPOONMEADOW_ROOT = 7,      /* root count outside 1 to 64 (place 0); a root is n or more, or repeats an earlier one (its place) */
+    SPOONMEADOW_QUERY = 8,     /* the query's length is not the dimension */
+    SPOONMEADOW_JOB = 9,       /* job count outside 1 to 64 (place 0), or a job names a node of n or more (that job) */
+    SPOONMEADOW_UNFIT = 10,    /* an unfit distance: the two nodes; in search the node and n */
+    SPOONMEADOW_DRAWS = 11,    /* too few draws */
+    SPOONMEADOW_STATE = 12,    /* lists, descent or relay state not well formed */
+    SPOONMEADOW_STEP = 13      /* a move for an absent or finished job (that job); a close with one unfinished (the lowest) */
+};
+
+/* Ranges. */
+#define SPOONMEADOW_LEAST_NODES 2
+#define SPOONMEADOW_MOST_NODES 4096
+#define SPOONMEADOW_MOST_DIMENSION 64
+#define SPOONMEADOW_MOST_K 64 /* of search's k, init_k, index_size and the count of roots */
+#define SPOONMEADOW_MOST_NEIGHBOR_NEIGHBOR_SIZE 256
+
+/* The parameters of a build where nothing else is wanted. */
+#define SPOONMEADOW_DEFAULT_INIT_K 64
+#define SPOONMEADOW_DEFAULT_INDEX_SIZE 64
+#define SPOONMEADOW_DEFAULT_NEIGHBOR_NEIGHBOR_SIZE 100
+#define SPOONMEADOW_DEFAULT_THRESHOLD 0.5f
+
+/* The node number that ends a graph row is n; the distance bits of an empty place are SPOONMEADOW_EMPTY, and fit distances lie below. */
+#define SPOONMEADOW_EMPTY 0x7F7FFFFFu
+
+/* Lengths of slices, in elements. "Exactly" and "at least" as said at each call. */
+#define SPOONMEADOW_LANES_LENGTH(n, dimension) ((size_t)(n) * (size_t)(dimension))
+#define SPOONMEADOW_GRAPH_LENGTH(n, index_size) ((size_t)(n) * (size_t)(index_size))
+#define SPOONMEADOW_BUILD_SCRATCH(n, init_k, index_size) (4 * (size_t)(n) * ((size_t)(init_k) + (size_t)(index_size)) + 4096)
+#define SPOONMEADOW_SEARCH_SCRATCH(n) (4 * (size_t)(n) + 1024)
+
+/* What a build says: a refusal with its places, or 0, 0, 0. */
+typedef struct {
+    size_t refusal;
+    size_t first;
+    size_t second;
+} spoonmeadow_said;
+
+/* What a search says: a refusal with its places, or m results and the count of nodes taken from the queue. */
+typedef struct {
+    size_t refusal;
+    size_t first;
+    size_t second;
+    size_t m;
+    size_t takings;
+} spoonmeadow_found;
+
+/* Teaches a game of n counters: writes its graph, index_size places a counter, the nodes of a row and then n in every place left.
+   Refusals: 1, 2, 3, 4 (init_k, index_size, neighbor_neighbor_size), 5, 6, and 10 at the first unfit pair i < j, i rising and then j.
+
+   lanes         exactly SPOONMEADOW_LANES_LENGTH(n, dimension), node by node
+   graph         exactly SPOONMEADOW_GRAPH_LENGTH(n, index_size)
+   scratch_u, scratch_f        each at least SPOONMEADOW_BUILD_SCRATCH(n, init_k, index_size) */
+spoonmeadow_said spoonmeadow_build(
+    size_t init_k, size_t index_size, size_t neighbor_neighbor_size, float threshold,
+    size_t dimension, size_t n,
+    const float *lanes, size_t lanes_length,
+    uint32_t *graph, size_t graph_length,
+    uint32_t *scratch_u, size_t scratch_u_length,
+    float *scratch_f, size_t scratch_f_length);
+
+/* Names the nearest counters to a query: m = min(k, root count) of them, nearest first, in the first m places of both result slices, the
+   nodes and their distances' bits; further places unchanged. Refusals: 1, 2, 3, 4 (index_size, k), 6, 7, 8, and 10 at the first unfit distance worked out.
+
+   lanes         exactly SPOONMEADOW_LANES_LENGTH(n, dimension), node by node
+   graph         exactly SPOONMEADOW_GRAPH_LENGTH(n, index_size), any contents: a row is read up to its first value of n or more
+   roots         1 to 64 different nodes
+   query         exactly dimension
+   result_nodes, result_bits   each at least k
+   scratch_u, scratch_f        each at least SPOONMEADOW_SEARCH_SCRATCH(n) */
+spoonmeadow_found spoonmeadow_search(
+    size_t dimension, size_t n,
+    const float *lanes, size_t lanes_length,
+    const uint32_t *graph, size_t graph_length,
+    size_t index_size,
+    const uint32_t *roots, size_t roots_length,
+    const float *query, size_t query_length,
+    size_t k,
+    uint32_t *result_nodes, size_t result_nodes_length,
+    uint32_t *result_bits, size_t result_bits_length,
+    uint32_t *scratch_u, size_t scratch_u_length,
+    float *scratch_f, size_t scratch_f_length);
+
+#ifdef __cplusplus
+}
+#endif
+
+#endif

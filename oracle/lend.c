@@ -1,0 +1,107 @@
+/* Lends the entries to another program: each call is read from standard input, and what it left is written to standard output.
+
+   A call is u64: the entry (0 ends), the count of numbers, the numbers, the count of slices; then each slice as a u64 length and its u32 words
+   (an f32 by its bits). The reply is five u64, what the entry said (unused ones 0), and then every slice, read-only ones too, with
+   GUARD words before it and behind it. Slices are separate allocations; guard words are GUARD_WORD. */
+#include "spoonmeadow.h"
+#include <stdio.h>
+#include <stdlib.h>
+#include <string.h>
+
+enum { GUARD = 16, MOST_NUMBERS = 16, MOST_SLICES = 16 };
+#define GUARD_WORD 0xDEADBEEFu
+
+static uint64_t number[MOST_NUMBERS];
+static uint32_t *room[MOST_SLICES]; /* with the guards */
+static uint32_t *word[MOST_SLICES]; /* the slice itself */
+static float *lane[MOST_SLICES];    /* the same, as floats */
+static size_t length[MOST_SLICES];
+
+static void must(int holds, const char *what) {
+    if (!holds) {
+        fprintf(stderr, "lend: %s\n", what);
+        exit(2);
+    }
+}
+
+static void get(void *to, size_t size, size_t count) {
+    must(fread(to, size, count, stdin) == count, "a call that stops early");
+}
+
+static void put(const void *from, size_t size, size_t count) {
+    must(fwrite(from, size, count, stdout) == count, "nobody reads");
+}
+
+static uint64_t one(void) {
+    uint64_t x;
+    get(&x, sizeof x, 1);
+    return x;
+}
+
+static void get_slice(size_t i) {
+    length[i] = one();
+    room[i] = malloc((length[i] + 2 * GUARD) * sizeof(uint32_t));
+    must(room[i] != NULL, "no room");
+    word[i] = room[i] + GUARD;
+    lane[i] = (float *)(void *)word[i];
+    for (size_t g = 0; g < GUARD; g++) {
+        room[i][g] = word[i][length[i] + g] = GUARD_WORD;
+    }
+    get(word[i], sizeof(uint32_t), length[i]);
+}
+
+static float number_as_float(size_t i) {
+    uint32_t bits = (uint32_t)number[i];
+    float x;
+    memcpy(&x, &bits, sizeof x);
+    return x;
+}
+
+static void say(spoonmeadow_said said) {
+    uint64_t reply[5] = {said.refusal, said.first, said.second, 0, 0};
+    put(reply, sizeof reply[0], 5);
+}
+
+static void say_found(spoonmeadow_found found) {
+    uint64_t reply[5] = {found.refusal, found.first, found.second, found.m, found.takings};
+    put(reply, sizeof reply[0], 5);
+}
+
+#define U(i) word[i], length[i]
+#define F(i) lane[i], length[i]
+
+static void call(uint64_t entry) {
+    switch (entry) {
+    case 1:
+        say(spoonmeadow_build(number[0], number[1], number[2], number_as_float(3), number[4], number[5], F(0), U(1), U(2), F(3)));
+        break;
+    case 2:
+        say_found(spoonmeadow_search(number[0], number[1], F(0), U(1), number[2], U(2), F(3), number[3], U(4), U(5), U(6), F(7)));
+        break;
+    default:
+        must(0, "no such entry");
+    }
+}
+
+int main(void) {
+    for (;;) {
+        uint64_t entry = one();
+        if (entry == 0) {
+            return 0;
+        }
+        size_t numbers = one();
+        must(numbers <= MOST_NUMBERS, "too many numbers");
+        get(number, sizeof number[0], numbers);
+        size_t slices = one();
+        must(slices <= MOST_SLICES, "too many slices");
+        for (size_t i = 0; i < slices; i++) {
+            get_slice(i);
+        }
+        call(entry);
+        for (size_t i = 0; i < slices; i++) {
+            put(room[i], sizeof(uint32_t), length[i] + 2 * GUARD);
+            free(room[i]);
+        }
+        must(fflush(stdout) == 0, "nobody reads");
+    }
+}
