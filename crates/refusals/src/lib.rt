@@ -1,4 +1,7 @@
 // The common ground of the refusal tests: junk in lent places, what became of it after a call, and a refusal's numbers in a line.
+ghost use mathlib.Core.Path.{_≡_};
+ghost use lib.ListN.{length};
+ghost use Rattle.refusals.specs.Junk.{rising, nextWord, nextFloat, wordsStand, floatsStand};
 use libc::STDOUT_FILENO;
 use rules::Refusal;
 
@@ -25,7 +28,9 @@ pub enum Left {
 }
 
 /// Fills lent words: `first`, and one more in each further place.
-pub fn fill_words(xs: &mut [u32], first: u32) {
+pub fn fill_words(xs: &mut [u32], first: u32)
+    ensures { λ _. ⌜ now (xs .exit) ≡ rising nextWord first (length (now (xs .entry))) ⌝ }
+{
     let mut i: usize = 0;
     let mut v = first;
     while i < xs.len() {
@@ -36,7 +41,9 @@ pub fn fill_words(xs: &mut [u32], first: u32) {
 }
 
 /// Fills lent floats: `first`, and 1.0 more in each further place.
-pub fn fill_floats(xs: &mut [f32], first: f32) {
+pub fn fill_floats(xs: &mut [f32], first: f32)
+    ensures { λ _. ⌜ now (xs .exit) ≡ rising nextFloat first (length (now (xs .entry))) ⌝ }
+{
     let mut i: usize = 0;
     let mut v = first;
     while i < xs.len() {
@@ -53,7 +60,9 @@ pub fn fill_scratch(words: &mut [u32], floats: &mut [f32]) {
 }
 
 /// Whether every place from `from` on is as `fill_words` left it.
-pub fn kept_words(xs: &[u32], from: usize, first: u32) -> bool {
+pub fn kept_words(xs: &[u32], from: usize, first: u32) -> bool
+    ensures { λ r. ⌜ r ≡ wordsStand from 0 first (now (xs .entry)) ⌝ }
+{
     let mut i: usize = 0;
     let mut v = first;
     while i < xs.len() {
@@ -69,9 +78,11 @@ pub fn kept_words(xs: &[u32], from: usize, first: u32) -> bool {
 }
 
 // Whether every place is as `fill_floats` left it: equal numbers that are not zero have equal bits, and a NaN equals none.
-fn kept_floats(xs: &[f32]) -> bool {
+fn kept_floats(xs: &[f32], first: f32) -> bool
+    ensures { λ r. ⌜ r ≡ floatsStand 0 first (now (xs .entry)) ⌝ }
+{
     let mut i: usize = 0;
-    let mut v = FLOATS;
+    let mut v = first;
     while i < xs.len() {
         if xs[i] != v {
             return false;
@@ -84,7 +95,7 @@ fn kept_floats(xs: &[f32]) -> bool {
 
 fn kept(words: &[u32], floats: &[f32]) -> bool {
     if kept_words(words, 0, WORDS) {
-        return kept_floats(floats);
+        return kept_floats(floats, FLOATS);
     }
     false
 }
