@@ -31,7 +31,7 @@ module _ (n : ℕ) where
   unfolding listFormed
   of-kept l K = record { ascends = kept-ascending K; held = K .holdable; entries = both (ascending l) (entriesFormed n l) (K .formed) .1 }
 
-  binary-each : (l : List Neighbor) → Binary32 (distancesOf l) → All (λ (e : Neighbor). T (fits binary32 (e .distance))) l
+  pub binary-each : (l : List Neighbor) → Binary32 (distancesOf l) → All (λ (e : Neighbor). T (fits binary32 (e .distance))) l
   unfolding distancesOf
   binary-each [] F = tt
   binary-each (e ∷ l) F = (F .0, binary-each l (F .1))
