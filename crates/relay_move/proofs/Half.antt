@@ -4,7 +4,7 @@ use mathlib.Core.Bool.{Bool, true, false, cond, not, _&&_}
 use mathlib.Core.List.{List, [], _∷_, _++_, map}
 use Prim.Native.Nat.{ℕ, zero, suc, _+_, _-_, _*_, _≤_, _<_}
 use native.Mathlib.Omega.{arith}
-use borrow.Author.Tests.{eqb-true, eqb-false, eq-eqb, ne-eqb}
+use borrow.Author.Tests.{eq-eqb, ne-eqb}
 use borrow.Rule.Slice.PartMut.{putMid}
 use lib.Dec.{eqb}
 use lib.ListN.{length, take, drop, getD, set, replicate, length-drop, length-set}
@@ -14,7 +14,7 @@ use Rattle.rules.specs.declared.Neighbor.{Neighbor}
 use Rattle.rules.specs.Loops.{part}
 use Rattle.rules.specs.Distance.{zero32}
 use Rattle.rules.specs.Lists.{neighbor, entries, nodesOf, distancesOf, insert}
-use Rattle.rules.specs.Relay.{Stage, fresh, looked, pushed, measured, popped, stepsOf, isPopped, takenOf, longerOf, bit, Job, Relay, noJob, jobAt, equalNodes, isFinished, nextStage, nextList, moved}
+use Rattle.rules.specs.Relay.{Stage, looked, stepsOf, isPopped, takenOf, longerOf, bit, Job, Relay, jobAt, equalNodes, isFinished, nextStage, nextList, moved}
 use Rattle.rules.specs.Descent.{listAt}
 use Rattle.rules.specs.Places.{padded}
 use Rattle.rules.specs.RelayPlaces.{jobWords, jobsWords, stageIn, pendingAt, relayIn, relayState, relayStateFloats, relayFormed}
@@ -34,103 +34,9 @@ use Rattle.relay_kept.proofs.Jobs.{pending-le}
 use Rattle.relay_kept.proofs.Kept.{moved-is, job-formed, target-below, list-after, after-formed}
 use Rattle.relay_kept.proofs.Tested.{tested}
 use Rattle.relay_move.specs.Moves.{listIn, Room, wordsWith, floatsWith, jobPlace, halfStage, HalfReady, offered, wordsAfter, HalfMoved, Stepped}
+use Rattle.relay_move.proofs.Stages.{halfOf, stage-back, steps-next, steps-few, steps-popped, steps-most, bit-few, eqb-turned, kept-words, word-u, word-v, word-steps, word-taken, word-longer}
 use Rattle.relay_move.proofs.Parts.{drop-with}
 use Rattle.relay_move.proofs.Encoding.{short-set, list-set, list-set-floats, job-set, job-set-floats}
-
--- ---- a stage and its words
-
-stage-back : (s : Stage) → stageIn (stepsOf s) (eqb (bit (takenOf s)) 1) (eqb (bit (longerOf s)) 1) ≡ s
-unfolding stageIn stepsOf takenOf longerOf
-stage-back fresh = refl
-stage-back (looked true) = refl
-stage-back (looked false) = refl
-stage-back (pushed true) = refl
-stage-back (pushed false) = refl
-stage-back (measured true true) = refl
-stage-back (measured true false) = refl
-stage-back (measured false true) = refl
-stage-back (measured false false) = refl
-stage-back (popped true true) = refl
-stage-back (popped true false) = refl
-stage-back (popped false true) = refl
-stage-back (popped false false) = refl
-
-steps-next : (k : ℕ) (equal : Bool) (e : Neighbor) (l : List Neighbor) (s : Stage) → isPopped s ≡ false → stepsOf (nextStage k equal e l s) ≡ suc (stepsOf s)
-unfolding nextStage stepsOf isPopped
-steps-next k equal e l fresh h = refl
-steps-next k equal e l (looked t) h = refl
-steps-next k equal e l (pushed t) h = refl
-steps-next k equal e l (measured t m) h = refl
-steps-next k equal e l (popped t m) h = let z : _≡_ {A = ℕ} 0 1 = cc in absurd (omega arith)
-
-steps-few : (s : Stage) → isPopped s ≡ false → stepsOf s ≤ 3
-unfolding stepsOf isPopped
-steps-few fresh h = omega arith
-steps-few (looked t) h = omega arith
-steps-few (pushed t) h = omega arith
-steps-few (measured t m) h = omega arith
-steps-few (popped t m) h = let z : _≡_ {A = ℕ} 0 1 = cc in absurd (omega arith)
-
-steps-popped : (s : Stage) → isPopped s ≡ true → stepsOf s ≡ 4
-unfolding stepsOf isPopped
-steps-popped fresh h = let z : _≡_ {A = ℕ} 0 1 = cc in absurd (omega arith)
-steps-popped (looked t) h = let z : _≡_ {A = ℕ} 0 1 = cc in absurd (omega arith)
-steps-popped (pushed t) h = let z : _≡_ {A = ℕ} 0 1 = cc in absurd (omega arith)
-steps-popped (measured t m) h = let z : _≡_ {A = ℕ} 0 1 = cc in absurd (omega arith)
-steps-popped (popped t m) h = refl
-
-steps-most : (s : Stage) → stepsOf s ≤ 4
-unfolding stepsOf
-steps-most fresh = omega arith
-steps-most (looked t) = omega arith
-steps-most (pushed t) = omega arith
-steps-most (measured t m) = omega arith
-steps-most (popped t m) = omega arith
-
-bit-few : (b : Bool) → bit b ≤ 1
-bit-few true = omega arith
-bit-few false = omega arith
-
-eqb-turned : (a b : ℕ) → eqb a b ≡ eqb b a
-eqb-turned a b = go (eqb a b) refl
-  where
-    go : (c : Bool) → eqb a b ≡ c → c ≡ eqb b a
-    go true e = sym (eq-eqb b a (sym (eqb-true a b e)))
-    go false e = sym (ne-eqb b a (λ q. eqb-false a b e (sym q)))
-
--- ---- the words of a job with one half a step further
-
--- where the words of a half stand
-abbrev pub halfOf : Bool → ℕ
-halfOf b = cond b 5 3
-
-kept-words : (b : Bool) (j : Job) (s : Stage) → stepsOf s ≡ suc (stepsOf (stageOf b j)) → keptWords (jobWords j) (halfOf b) (bit (takenOf s)) (bit (longerOf s)) ≡ jobWords (withStage b j s)
-unfolding jobWords padded
-kept-words false j s h = let e : stepsOf (j .first) + stepsOf (j .second) + 1 ≡ stepsOf s + stepsOf (j .second) = omega arith in rw e
-kept-words true j s h = let e : stepsOf (j .first) + stepsOf (j .second) + 1 ≡ stepsOf (j .first) + stepsOf s = omega arith in rw e
-
-module _ (j : Job) where
-  word-u : getD (jobWords j) 0 0 ≡ j .u
-  unfolding jobWords padded
-  word-u = refl
-
-  word-v : getD (jobWords j) 1 0 ≡ j .v
-  unfolding jobWords padded
-  word-v = refl
-
-  word-steps : getD (jobWords j) 2 0 ≡ stepsOf (j .first) + stepsOf (j .second)
-  unfolding jobWords padded
-  word-steps = refl
-
-  word-taken : (b : Bool) → getD (jobWords j) (halfOf b) 0 ≡ bit (takenOf (stageOf b j))
-  unfolding jobWords padded
-  word-taken true = refl
-  word-taken false = refl
-
-  word-longer : (b : Bool) → getD (jobWords j) (halfOf b + 1) 0 ≡ bit (longerOf (stageOf b j))
-  unfolding jobWords padded
-  word-longer true = refl
-  word-longer false = refl
 
 module _ {n k : ℕ} {us : List ℕ} {fs : List Float} (z : Sized n k us fs) (B : Binary32 fs) (good : relayFormed n k us fs ≡ true) (i : ℕ) (below : i < length (relayIn n k us fs .jobs)) where
   abbrev r : Relay
@@ -169,6 +75,11 @@ module _ {n k : ℕ} {us : List ℕ} {fs : List Float} (z : Sized n k us fs) (B 
 
   pub steps-are : getD us (P + 2) 0 ≡ stepsOf (j .first) + stepsOf (j .second)
   steps-are = word 2 (omega arith) ∙ word-steps j
+
+  -- the report of a half
+  pub taken-is : (b : Bool) → getD us (P + halfOf b) 0 ≡ bit (takenOf (stageOf b j))
+  taken-is true = word 5 (omega arith) ∙ word-taken j true
+  taken-is false = word 3 (omega arith) ∙ word-taken j false
 
   few-jobs : i < 64
   few-jobs = let f = F .few in omega arith
