@@ -72,12 +72,15 @@ module _ {A : Type 0} where
 
   -- ---- a part of a list
 
-  pub length-part : (w n q : ℕ) (xs : List A) → length xs ≡ n * w → q < n → length (part w q xs) ≡ w
+  pub length-part-of : (w n q : ℕ) (xs : List A) → n * w ≤ length xs → q < n → length (part w q xs) ≡ w
   unfolding part
-  length-part w n q xs e h =
+  length-part-of w n q xs e h =
       let a = mul-le-mul-right w h in
       let b = suc-mul q w in
       length-take-le w (drop (q * w) xs) (simp length-drop (omega arith))
+
+  pub length-part : (w n q : ℕ) (xs : List A) → length xs ≡ n * w → q < n → length (part w q xs) ≡ w
+  length-part w n q xs e h = length-part-of w n q xs (omega arith) h
 
   pub all-drop : (P : A → Type 0) (m : ℕ) (xs : List A) → All P xs → All P (drop m xs)
   all-drop P zero xs X = X

@@ -1,4 +1,7 @@
 // The common ground of the refusal tests: junk in lent places, what became of it after a call, and a refusal's numbers in a line.
+ghost use mathlib.Core.Path.{_≡_};
+ghost use lib.ListN.{length};
+ghost use Rattle.refusals.specs.Junk.{rising, nextWord, nextFloat, wordsStand, floatsStand};
 use libc::STDOUT_FILENO;
 use rules::Refusal;
 
@@ -24,8 +27,10 @@ pub enum Left {
     Written,
 }
 
-/// Fills lent words with junk: `first`, and one more in each further place.
-pub fn fill_words(xs: &mut [u32], first: u32) {
+/// Fills lent words: `first`, and one more in each further place.
+pub fn fill_words(xs: &mut [u32], first: u32)
+    ensures { λ _. ⌜ now (xs .exit) ≡ rising nextWord first (length (now (xs .entry))) ⌝ }
+{
     let mut i: usize = 0;
     let mut v = first;
     while i < xs.len() {
@@ -35,9 +40,12 @@ pub fn fill_words(xs: &mut [u32], first: u32) {
     }
 }
 
-fn fill_floats(xs: &mut [f32]) {
+/// Fills lent floats: `first`, and 1.0 more in each further place.
+pub fn fill_floats(xs: &mut [f32], first: f32)
+    ensures { λ _. ⌜ now (xs .exit) ≡ rising nextFloat first (length (now (xs .entry))) ⌝ }
+{
     let mut i: usize = 0;
-    let mut v = FLOATS;
+    let mut v = first;
     while i < xs.len() {
         xs[i] = v;
         v = v + 1.0;
@@ -48,11 +56,13 @@ fn fill_floats(xs: &mut [f32]) {
 /// Fills both scratch slices with junk.
 pub fn fill_scratch(words: &mut [u32], floats: &mut [f32]) {
     fill_words(words, WORDS);
-    fill_floats(floats);
+    fill_floats(floats, FLOATS);
 }
 
 /// Whether every place from `from` on is as `fill_words` left it.
-pub fn kept_words(xs: &[u32], from: usize, first: u32) -> bool {
+pub fn kept_words(xs: &[u32], from: usize, first: u32) -> bool
+    ensures { λ r. ⌜ r ≡ wordsStand from 0 first (now (xs .entry)) ⌝ }
+{
     let mut i: usize = 0;
     let mut v = first;
     while i < xs.len() {
@@ -68,9 +78,11 @@ pub fn kept_words(xs: &[u32], from: usize, first: u32) -> bool {
 }
 
 // Whether every place is as `fill_floats` left it: equal numbers that are not zero have equal bits, and a NaN equals none.
-fn kept_floats(xs: &[f32]) -> bool {
+fn kept_floats(xs: &[f32], first: f32) -> bool
+    ensures { λ r. ⌜ r ≡ floatsStand 0 first (now (xs .entry)) ⌝ }
+{
     let mut i: usize = 0;
-    let mut v = FLOATS;
+    let mut v = first;
     while i < xs.len() {
         if xs[i] != v {
             return false;
@@ -83,7 +95,7 @@ fn kept_floats(xs: &[f32]) -> bool {
 
 fn kept(words: &[u32], floats: &[f32]) -> bool {
     if kept_words(words, 0, WORDS) {
-        return kept_floats(floats);
+        return kept_floats(floats, FLOATS);
     }
     false
 }
@@ -139,12 +151,43 @@ pub fn put(before: &[u8], n: usize) {
     io::print_decimal(STDOUT_FILENO, n as u64);
 }
 
+/// Prints a word behind a text.
+pub fn put_word(before: &[u8], word: u32) {
+    put(before, word as usize);
+}
+
 /// Prints a refusal's number and places.
 pub fn put_refusal(r: Refusal) {
     let code = code_of(r);
     put(b": ", code.number);
     put(b",", code.first);
     put(b",", code.second);
+}
+
+fn put_place(i: usize, column: usize, node: u32) {
+    if i == 0 {
+        put_word(b": ", node);
+        return;
+    }
+    if column == 0 {
+        put_word(b" / ", node);
+        return;
+    }
+    put_word(b",", node);
+}
+
+/// Prints a graph as the settled squares have it: every place of a row, and row after row.
+pub fn put_graph(graph: &[u32], index_size: usize) {
+    let mut i: usize = 0;
+    let mut column: usize = 0;
+    while i < graph.len() {
+        put_place(i, column, graph[i]);
+        column = std::num::wrapping_add_usize(column, 1);
+        if column == index_size {
+            column = 0;
+        }
+        i += 1;
+    }
 }
 
 /// Ends a line by what became of the lent places.

@@ -36,8 +36,8 @@ fn left(m: usize, nodes: &[u32], bits: &[u32], words: &[u32], floats: &[f32]) ->
 }
 
 fn result(node: u32, bits: u32) {
-    refusals::put(b", ", node as usize);
-    refusals::put(b" at ", bits as usize);
+    refusals::put_word(b", ", node);
+    refusals::put_word(b" at ", bits);
 }
 
 fn results(m: usize, nodes: &[u32], bits: &[u32]) {

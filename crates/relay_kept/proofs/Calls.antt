@@ -9,13 +9,14 @@ use lib.ListN.{length}
 use lib.Ieee.{Float}
 use borrow.Author.Tests.{lt-leb, le-ltb}
 use Rattle.rules.specs.Numbers.{most, mostTaught, outside}
-use Rattle.rules.specs.Refusals.{noRefusal, passed, decide, holds, notExactly, row2, row4, row6, row12, row13}
+use Rattle.rules.specs.Refusals.{noRefusal, code, passed, decide, holds, notExactly, row2, row4, row6, row12, row13}
 use Rattle.rules.specs.Calls.{relayWords, relayFloats, moveRows, closeRows}
 use Rattle.rules.specs.Loops.{over}
 use Rattle.rules.specs.Relay.{Job, Relay, moved, isFinished, jobAt, lowestUnfinished, reportsOf}
 use Rattle.rules.specs.Places.{listWords, listFloats}
 use Rattle.rules.specs.RelayPlaces.{relayState, relayStateFloats, relayIn, relayFormed}
 use Rattle.rules.specs.RelayCall.{MoveLent, MoveOutcome, relayOf, moveTable, moveObeys, moveRule, CloseLent, CloseOutcome, closing, closeTable, closeObeys, closeRule}
+use Rattle.rules.proofs.Tables.{decide-append, held}
 use Rattle.encoded.proofs.Back.{relay-back, state-long, floats-long}
 use Rattle.relay_kept.specs.Formed.{Formed}
 use Rattle.relay_kept.specs.Calls.{Sizes, moving, leaves}
@@ -53,6 +54,28 @@ module _ {n k : ℕ} (Z : Sizes n k) (r : Relay) (F : Formed n k r) where
   pub move-leaves : (i : ℕ) → i < length (r .jobs) → isFinished (jobAt r i) ≡ false → moveRule (moving n k r i) ≡ leaves k (moved k r i)
   unfolding moveRule moveObeys
   move-leaves i h f = rw (move-passes i h f) (ap (λ (x : Relay). leaves k (moved k x i)) back)
+
+  -- "a move for an absent or finished job": 13, and the state stays
+  pub move-refused : (i : ℕ) → (leb (length (r .jobs)) i || isFinished (jobAt r i)) ≡ true
+      → moveRule (moving n k r i) ≡ record { said = code 13 i 0; state-u = relayState k r; state-f = relayStateFloats k r }
+  unfolding moveRule moveObeys moveTable moveRows row2 row4 row6 row12 row13
+  move-refused i h =
+      let us = relayState k r in
+      let fs = relayStateFloats k r in
+      let rs =
+      row2 mostTaught n ∷ row4 (outside 1 most k ∷ []) ∷ row6 (notExactly (relayWords n k) (length us) ∷ notExactly (relayFloats n k) (length fs) ∷ [])
+      ∷ row12 (relayFormed n k us fs) ∷ [] in
+      let wrong = leb (length (relayIn n k us fs .jobs)) i || isFinished (jobAt (relayIn n k us fs) i) in
+      let p =
+      all-pass rs (
+        Z .nodes,
+        (
+          hold-none (outside 1 most k ∷ []) (Z .size, tt),
+          (hold-none (notExactly (relayWords n k) (length us) ∷ notExactly (relayFloats n k) (length fs) ∷ []) (long-us, (long-fs, tt)), (formed-not, tt)),
+        ),
+      ) in
+      ap (moveObeys (moving n k r i))
+      (decide-append rs (row13 wrong i ∷ []) p ∙ held (row13 wrong i) [] (ap (λ (x : Relay). leb (length (x .jobs)) i || isFinished (jobAt x i)) back ∙ h))
 
   -- a close that finds every job finished
   module _ (nodes : List ℕ) (distances : List Float) (reports : List ℕ) (ns : length nodes ≡ n * k) (ds : length distances ≡ n * k) (rs : length reports ≡ 128) where

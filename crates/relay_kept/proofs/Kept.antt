@@ -19,7 +19,8 @@ use Rattle.lists.proofs.Plain.{all-at}
 use Rattle.encoded.proofs.Same.{both, together}
 use Rattle.relay_kept.specs.Formed.{ListFormed, JobFormed, Formed}
 use Rattle.relay_kept.specs.Halves.{target, entryOf, stageOf, withStage, halfAt, found, jobAfter, relayAfter, others, pendingJob, pendingBeside}
-use Rattle.relay_kept.proofs.Lists.{entry-formed, formed-insert, formed-take}
+use Rattle.steps.proofs.Formed.{entry-formed}
+use Rattle.relay_kept.proofs.Lists.{formed-insert, formed-take}
 use Rattle.relay_kept.proofs.Jobs.{Parts, parts, near-fit, stage-parts, target-in, staged, pending-staged, pending-at-stage, others-set, all-set, pending-others}
 
 -- ---- one step of an offer of e to the list l, for which others have P entries to pop
@@ -123,11 +124,16 @@ module _ {n k : ℕ} (r : Relay) (F : Formed n k r) (i : ℕ) (h : i < length (r
       let o = ap (pendingAt w) (others-set (r .jobs) i j') in
       omega arith
 
+  long-before : length (found r i b) ≡ k + (pending (stageOf b j) + more t)
+  long-before = F .lengths t target-below ∙ ap (λ (x : ℕ). k + x) (pending-before t ∙ rw (eq-eqb t t refl))
+
+  pub room-before : k + pending (stageOf b (jobAt r i)) ≤ length (found r i b)
+  room-before = let a = long-before in omega arith
+
   step : Stepped n k (more t) (equalNodes j) (entryOf b j) (found r i b) (stageOf b j)
   step =
       stepped n k (more t) (equalNodes j) (entryOf b j) (found r i b) (offer-held b j (job-formed .held)) (offer-formed n b j P) (F .lists t target-below)
-      (stageOf b j) (stage-parts n b j P)
-      (F .lengths t target-below ∙ ap (λ (x : ℕ). k + x) (pending-before t ∙ rw (eq-eqb t t refl)))
+      (stageOf b j) (stage-parts n b j P) long-before
 
   -- the lists afterwards
   pub list-after : listAt (relayAfter k r i b .lists) (target b (jobAt r i)) ≡ nextList (entryOf b (jobAt r i)) (found r i b) (stageOf b (jobAt r i))

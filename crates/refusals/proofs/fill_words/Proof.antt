@@ -1,26 +1,27 @@
--- `refusals::fill_words` is safe and ends. Assumes nothing.
-use mathlib.Core.Path.{_≡_, refl}
+-- `refusals::fill_words` meets its contract: the first `i` places are filled. Assumes nothing.
 use Prim.Native.Nat.{_-_}
 use native.Mathlib.Omega.{arith}
-use lib.ListN.{length, length-set}
+use lib.ListN.{length}
+use Rattle.refusals.specs.Junk.{nextWord}
+use Rattle.refusals.proofs.Laws.{Filling, filling-none, filling-turn, filling-end}
 use borrow.Author.Needs.{needs}
 use Rattle.refusals.proofs.fill_words.Statement.{statement}
 use Rattle.refusals.proofs.fill_words.Tie as tie
 
 abbrev Inv-loop : tie.InvT-loop
-Inv-loop xs₀ first i₀ v₀ xs i v = length xs ≡ length xs₀
+Inv-loop xs₀ first i₀ v₀ xs i v = Filling nextWord first xs₀ xs i v
 
 abbrev μ-loop : tie.MeasureT-loop
 μ-loop xs₀ first i₀ v₀ xs i v = length xs₀ - i
 
 loop-holds : tie.Need-loop-holds Inv-loop μ-loop
-loop-holds c = refl
+loop-holds c = filling-none nextWord _ _
 
 mul-xs : tie.Need-mul-xs Inv-loop μ-loop
-mul-xs c = let long = c .before .loop .inv in search needs
+mul-xs c = let long = c .before .loop .inv .long in search needs
 
 slice-write-xs : tie.Need-slice-write-xs Inv-loop μ-loop
-slice-write-xs c = let long = c .before .loop .inv in omega arith
+slice-write-xs c = let long = c .before .loop .inv .long in omega arith
 
 wrapping-add-u32-requires : tie.Need-wrapping-add-u32-requires Inv-loop μ-loop
 wrapping-add-u32-requires c κs = search needs
@@ -29,16 +30,16 @@ add-i : tie.Need-add-i Inv-loop μ-loop
 add-i c = search needs
 
 loop-less : tie.Need-loop-less Inv-loop μ-loop
-loop-less c = let long = c .before .before .loop .inv in omega arith
+loop-less c = let long = c .before .before .loop .inv .long in omega arith
 
 loop-again : tie.Need-loop-again Inv-loop μ-loop
-loop-again c = simp length-set (c .before .before .loop .inv)
+loop-again c = let long = c .before .before .loop .inv .long in rw (c .wrapping-add-u32 .ensures) (filling-turn nextWord (c .before .before .loop .inv) (omega arith))
 
 same-length : tie.Need-same-length Inv-loop μ-loop
-same-length c = c .before .loop .inv
+same-length c = c .before .loop .inv .long
 
 returns : tie.Need-returns Inv-loop μ-loop
-returns c = search needs
+returns c = let long = c .before .loop .inv .long in filling-end nextWord (c .before .loop .inv) (omega arith)
 
 pub fill-words-spec : {M : Type 1} → statement M
 fill-words-spec =

@@ -1,0 +1,2 @@
+-- `Laws`: the loops.
+pub mod Laws

@@ -1,0 +1,47 @@
+// The reversed lists of an iteration: each node's number once per member it has, and a list copied to every context.
+ghost use Prim.Native.Nat.{_+_, _*_, _≤_, _<_};
+ghost use lib.ListN.{length};
+ghost use Rattle.backs.specs.Backs.{Lengths, FilledFrom, GatheredBack, PutBack};
+
+// Writes `count` times node `v` to `out` from `len` on.
+fn repeat(v: u32, count: usize, out: &mut [u32], len: usize)
+    requires { ⌜ len + count ≤ length (now out) ⌝ }
+    ensures { λ _. ⌜ FilledFrom v count len (now (out .entry)) (now (out .exit)) ⌝ }
+{
+    let mut j: usize = 0;
+    while j < count {
+        out[len + j] = v;
+        j += 1;
+    }
+}
+
+/// Writes each node's number, rising, once per member of the list at `at` of its context, to the front of `out`, and returns how many
+/// there are: what every node's reversed list is made of (hora's `reversed_new_neighbors`, one `Arc` that all nodes share).
+pub fn back_members(contexts: &[u32], n: usize, at: usize, out: &mut [u32]) -> usize
+    requires { ⌜ (n ≤ 1024) × (at < 260) × (260 * n ≤ length (now contexts)) × Lengths n at (now contexts) × (64 * n ≤ length (now out)) ⌝ }
+    ensures { λ r. ⌜ GatheredBack n at (now (contexts .entry)) (now (out .entry)) (now (out .exit)) r ⌝ }
+{
+    let mut len: usize = 0;
+    let mut i: usize = 0;
+    while i < n {
+        let count = contexts[260 * i + at] as usize;
+        repeat(i as u32, count, out, len);
+        len += count;
+        i += 1;
+    }
+    len
+}
+
+/// Writes a list of at most 64 to the 65 words at `at` of every context.
+pub fn put_back(src: &[u32], n: usize, at: usize, contexts: &mut [u32])
+    requires { ⌜ (n ≤ 1024) × (at + 65 ≤ 260) × (260 * n ≤ length (now contexts)) × (length (now src) ≤ 64) ⌝ }
+    ensures { λ _. ⌜ PutBack n at (now (src .entry)) (now (contexts .entry)) (now (contexts .exit)) ⌝ }
+{
+    let mut i: usize = 0;
+    while i < n {
+        let from = 260 * i + at;
+        let to = from + 65;
+        members::put_members(src, &mut contexts[from..to]);
+        i += 1;
+    }
+}

@@ -1,0 +1,2 @@
+-- What a pair that meets leaves of a descent's state.
+pub mod Meets

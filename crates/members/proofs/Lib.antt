@@ -1,0 +1,2 @@
+-- `Laws`: a context list in its words.
+pub mod Laws

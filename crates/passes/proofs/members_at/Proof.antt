@@ -1,0 +1,59 @@
+-- `passes::members_at` meets its contract. Assumes nothing.
+use mathlib.Core.Path.{_≡_}
+use Prim.Native.Nat.{_+_, _-_}
+use native.Mathlib.Omega.{arith}
+use lib.ListN.{getD}
+use Rattle.passes.proofs.Contexts.{members-room, members-cut}
+use borrow.Author.Needs.{needs}
+use Rattle.passes.proofs.members_at.Statement.{statement}
+use Rattle.passes.proofs.members_at.Tie as tie
+
+add-from : tie.Need-add-from
+add-from c = search needs
+
+mul-to : tie.Need-mul-to
+mul-to c = search needs
+
+shared-slice-read-to : tie.Need-shared-slice-read-to
+shared-slice-read-to c = let m = members-room (c .before .args .context .now) (c .before .args .at) (c .before .pre .0) in let low = c .before .pre .1 in let room = m .0 in let few = m .1 in omega arith
+
+cast-to : tie.Need-cast-to
+cast-to c = let m = members-room (c .before .args .context .now) (c .before .args .at) (c .before .pre .0) in let low = c .before .pre .1 in let room = m .0 in let few = m .1 in omega arith
+
+add-to : tie.Need-add-to
+add-to c = let m = members-room (c .before .args .context .now) (c .before .args .at) (c .before .pre .0) in let low = c .before .pre .1 in let room = m .0 in let few = m .1 in omega arith
+
+mul-result : tie.Need-mul-result
+mul-result c = search needs
+
+sub-result : tie.Need-sub-result
+sub-result c = search needs
+
+part-result-start : tie.Need-part-result-start
+part-result-start c = search needs
+
+part-result-end : tie.Need-part-result-end
+part-result-end c = let m = members-room (c .before .args .context .now) (c .before .args .at) (c .before .pre .0) in let low = c .before .pre .1 in let room = m .0 in let few = m .1 in omega arith
+
+returns : tie.Need-returns
+returns c =
+    let start = c .before .before in
+    let at = start .args .at in
+    let len = getD (start .args .context .now) at 0 in
+    let e : at + 1 + len - (at + 1) ≡ len = omega arith in
+    members-cut (start .args .context .now) at (start .pre .0) e
+
+pub members-at-spec : {M : Type 1} → statement M
+members-at-spec =
+    tie.close
+    (tie.spec
+    add-from
+    mul-to
+    shared-slice-read-to
+    cast-to
+    add-to
+    mul-result
+    sub-result
+    part-result-start
+    part-result-end
+    returns)

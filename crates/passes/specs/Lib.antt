@@ -1,0 +1,2 @@
+-- What the passes count on of a context.
+pub mod Passes

@@ -1,0 +1,62 @@
+-- One turn and the end of each loop over junk. Assumes nothing.
+use mathlib.Core.Path.{_≡_, refl, sym, ap, _∙_}
+use mathlib.Core.Bool.{Bool, true, false, not}
+use mathlib.Core.List.{List, [], _∷_, _++_, append-assoc, append-nil}
+use Prim.Native.Nat.{ℕ, suc, _+_, _-_, _≤_, _<_}
+use native.Mathlib.Numerals.{add-one}
+use native.Mathlib.Omega.{arith}
+use lib.Dec.{eqb}
+use lib.ListN.{length, take, drop, getD, set, length-set, drop-of-length-le}
+use lib.Seq.{take-all, take-suc-set, drop-cons}
+use borrow.Author.Tests.{lt-ltb, le-ltb, eq-eqb, ne-eqb}
+use Rattle.refusals.specs.Junk.{rising, stands, differs}
+
+module _ {A : Type 0} (next : A → A) where
+  -- the first i places are filled, and v is for the next
+  pub record Filling (first : A) (xs₀ xs : List A) (i : ℕ) (v : A) : Type 0 where
+    pub list : take i xs ++ rising next v (length xs₀ - i) ≡ rising next first (length xs₀)
+    pub long : length xs ≡ length xs₀
+
+  pub filling-none : (first : A) (xs : List A) → Filling first xs xs 0 first
+  filling-none first xs = record { list = ap (rising next first) (omega arith); long = refl }
+
+  pub filling-turn : {first v : A} {xs₀ xs : List A} {i : ℕ} → Filling first xs₀ xs i v → i < length xs₀ → Filling first xs₀ (set xs i v) (i + 1) (next v)
+  unfolding rising
+  filling-turn {first} {v} {xs₀} {xs} {i} inv h =
+      let long = inv .long in
+      let left : suc (length xs₀ - suc i) ≡ length xs₀ - i = omega arith in
+      record {
+        list = rw (add-one i, take-suc-set xs i v (omega arith), append-assoc) (ap (λ (n : ℕ). take i xs ++ rising next v n) left ∙ inv .list);
+        long = simp length-set long;
+      }
+
+  pub filling-end : {first v : A} {xs₀ xs : List A} {i : ℕ} → Filling first xs₀ xs i v → length xs₀ ≤ i → xs ≡ rising next first (length xs₀)
+  unfolding rising
+  filling-end {first} {v} {xs₀} {xs} {i} inv h =
+      let long = inv .long in
+      let none : 0 ≡ length xs₀ - i = omega arith in
+      sym (append-nil xs) ∙ ap (λ (l : List A). l ++ []) (sym (take-all i xs (omega arith))) ∙ ap (λ (n : ℕ). take i xs ++ rising next v n) none ∙ inv .list
+
+  module _ (differs : A → A → Bool) (from : ℕ) (v : A) (xs : List A) (d : A) (i : ℕ) where
+    pub stands-end : length xs ≤ i → stands next differs from i v (drop i xs) ≡ true
+    unfolding stands
+    stands-end h = rw (drop-of-length-le xs h)
+
+    module _ (h : i < length xs) where
+      pub stands-skip : i < from → stands next differs from (i + 1) (next v) (drop (i + 1) xs) ≡ stands next differs from i v (drop i xs)
+      unfolding stands
+      stands-skip s = rw (drop-cons xs i d h, lt-ltb i from s, add-one i)
+
+      pub stands-same : from ≤ i → differs (getD xs i d) v ≡ false → stands next differs from (i + 1) (next v) (drop (i + 1) xs) ≡ stands next differs from i v (drop i xs)
+      unfolding stands
+      stands-same f e = rw (drop-cons xs i d h, le-ltb i from f, e, add-one i)
+
+      pub stands-not : from ≤ i → differs (getD xs i d) v ≡ true → stands next differs from i v (drop i xs) ≡ false
+      unfolding stands
+      stands-not f e = rw (drop-cons xs i d h, le-ltb i from f, e)
+
+pub word-same : (x y : ℕ) → x ≡ y → differs x y ≡ false
+word-same x y e = ap not (eq-eqb x y e)
+
+pub word-differs : (x y : ℕ) → (x ≡ y → ⊥) → differs x y ≡ true
+word-differs x y e = ap not (ne-eqb x y e)

@@ -1,0 +1,2 @@
+-- Laws of junk.
+pub mod Laws

@@ -1,0 +1,34 @@
+-- What lent places hold before a call, and whether it stands after it. Assumes nothing.
+use mathlib.Core.Bool.{Bool, true, false, cond, not}
+use mathlib.Core.List.{List, [], _∷_}
+use Prim.Native.Nat.{ℕ, zero, suc, _+_, _%_, _^_}
+use lib.Dec.{eqb, ltb}
+use lib.Ieee.{Float, binary32, add, ofBits, ne}
+
+module _ {A : Type 0} (next : A → A) where
+  -- v, and in each further place the next
+  unfoldable pub rising : A → ℕ → List A
+  rising v zero = []
+  rising v (suc n) = v ∷ rising (next v) n
+
+  -- whether each place from the one numbered `from` on holds what `rising` gives it; i is the number of the first, and v its own
+  unfoldable pub stands : (A → A → Bool) → ℕ → ℕ → A → List A → Bool
+  stands differs from i v [] = true
+  stands differs from i v (x ∷ xs) =
+      let rest = stands differs from (suc i) (next v) xs in
+      cond (ltb i from) rest (cond (differs x v) false rest)
+
+abbrev pub nextWord : ℕ → ℕ
+nextWord v = (v + 1) % 2 ^ 32
+
+abbrev pub nextFloat : Float → Float
+nextFloat v = add binary32 v (ofBits binary32 0x3F800000)
+
+abbrev pub differs : ℕ → ℕ → Bool
+differs x y = not (eqb x y)
+
+abbrev pub wordsStand : ℕ → ℕ → ℕ → List ℕ → Bool
+wordsStand from i v xs = stands nextWord differs from i v xs
+
+abbrev pub floatsStand : ℕ → Float → List Float → Bool
+floatsStand i v xs = stands nextFloat ne 0 i v xs

@@ -1,0 +1,2 @@
+-- `Laws`: entries gathered by their pairs.
+pub mod Laws

@@ -1,0 +1,2 @@
+-- New and old lists gathered from a state.
+pub mod Renews
