@@ -1,5 +1,5 @@
 -- Reversed lists, loop by loop. Assumes nothing.
-use mathlib.Core.Path.{_≡_, refl, sym, ap, _∙_}
+use mathlib.Core.Path.{_≡_, refl, sym, ap, _∙_, subst}
 use mathlib.Core.Bool.{Bool, true, false}
 use mathlib.Core.List.{List, [], _∷_, _++_, append-assoc, append-nil}
 use Prim.Native.Nat.{ℕ, suc, _+_, _-_, _*_, _≤_, _<_, zero-le}
@@ -8,13 +8,15 @@ use borrow.Author.Tests.{ltb-true, ltb-false}
 use borrow.Rule.Slice.PartMut.{midOf, putMid}
 use lib.Dec.{ltb}
 use lib.ListN.{length, take, getD, set, replicate, length-append, length-replicate, length-set, replicate-append-replicate}
-use lib.Seq.{take-suc-set}
+use lib.Seq.{take-suc-set, take-take}
 use Rattle.rules.specs.Loops.{each}
+use Rattle.rules.specs.Descent.{drawnAfter, keptBack}
 use Rattle.rules.specs.DescentPlaces.{memberWords}
 use Rattle.rules.proofs.Loops.{each-turn}
 use Rattle.buffers.specs.Area.{area}
 use Rattle.buffers.proofs.Places.{length-area, put-length, put-area, put-low, put-high}
-use Rattle.backs.specs.Backs.{FilledFrom, backs, GatheredBack, PutBack}
+use Rattle.shuffles.specs.Kept.{KeptBack}
+use Rattle.backs.specs.Backs.{FilledFrom, backs, GatheredBack, PutBack, Reversed}
 
 -- ---- one number, some times
 
@@ -138,3 +140,26 @@ module _ {n at : ℕ} {src us₀ us : List ℕ} {i : ℕ} (inv : Putting n at sr
 
   pub putting-end : n ≤ i → PutBack n at src us₀ us
   putting-end h = record { list = λ (p : ℕ) l. inv .list p (omega arith); other = inv .other; behind = inv .behind; rest = inv .rest; long = inv .long }
+
+-- ---- the reversed list, cut and copied
+
+drawn-same : (s at : ℕ) (xs ys : List ℕ) → length xs ≡ length ys → drawnAfter s at xs ≡ drawnAfter s at ys
+unfolding drawnAfter
+drawn-same s at xs ys e = rw e
+
+pub reversed : {n s from to : ℕ} {draws : List ℕ} {at len kept r a b : ℕ} {us ws us' ws₁ ys : List ℕ} → a ≡ len → b ≡ kept → GatheredBack n from us ws ws₁ len → len ≤ length ws₁
+    → KeptBack draws s at (midOf 0 a ws₁) ys kept → r ≡ drawnAfter s at (midOf 0 a (putMid 0 a ws₁ ys)) → PutBack n to (midOf 0 b (putMid 0 a ws₁ ys)) us us'
+    → Reversed n s from to draws at us ws us' (putMid 0 a ws₁ ys) r
+reversed {n} {s} {from} {to} {draws} {at} {len} {kept} {r} {a} {b} {us} {ws} {us'} {ws₁} {ys} ea eb made fits k d p =
+    let k' : KeptBack draws s at (take len ws₁) ys kept = rw ea at k in
+    let whole : length (take len ws₁) ≡ len = length-area 0 len ws₁ (omega arith) in
+    let yl : length ys ≡ len = k' .long ∙ whole in
+    let short = k' .to in
+    let front : take kept (putMid 0 len ws₁ ys) ≡ take kept ys =
+    sym (take-take kept len (putMid 0 len ws₁ ys) (omega arith)) ∙ ap (take kept) (put-area 0 len ws₁ ys (omega arith) yl) in
+    let list : take kept (putMid 0 len ws₁ ys) ≡ keptBack draws s at (backs from us n) = front ∙ k' .list ∙ ap (keptBack draws s at) (made .list) in
+    record {
+      put = subst (λ (xs : List ℕ). PutBack n to xs us us') (rw (ea, eb) list) p;
+      next = d ∙ rw ea (drawn-same s at (take len (putMid 0 len ws₁ ys)) (backs from us n) (ap length (put-area 0 len ws₁ ys (omega arith) yl) ∙ yl ∙ made .exactly));
+      scratch-long = rw ea (put-length 0 len ws₁ ys (omega arith) yl ∙ made .long);
+    }

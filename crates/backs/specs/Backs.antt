@@ -4,6 +4,7 @@ use mathlib.Core.List.{List, _++_}
 use Prim.Native.Nat.{ℕ, _+_, _*_, _≤_, _<_}
 use lib.ListN.{length, take, getD, replicate}
 use Rattle.rules.specs.Loops.{each}
+use Rattle.rules.specs.Descent.{drawnAfter, keptBack}
 use Rattle.rules.specs.DescentPlaces.{memberWords}
 use Rattle.buffers.specs.Area.{area}
 
@@ -33,3 +34,9 @@ pub record PutBack (n at : ℕ) (src us us' : List ℕ) : Type 0 where
   pub behind : (i a w : ℕ) → at + 65 ≤ a → a + w ≤ 260 → i < n → area (260 * i + a) w us' ≡ area (260 * i + a) w us
   pub rest : (a w : ℕ) → 260 * n ≤ a → area a w us' ≡ area a w us
   pub long : length us' ≡ length us
+
+-- the reversed list of the lists at one place, cut to s, at another place of every context
+pub record Reversed (n s from to : ℕ) (draws : List ℕ) (at : ℕ) (us ws us' ws' : List ℕ) (r : ℕ) : Type 0 where
+  pub put : PutBack n to (keptBack draws s at (backs from us n)) us us'
+  pub next : r ≡ drawnAfter s at (backs from us n)
+  pub scratch-long : length ws' ≡ length ws

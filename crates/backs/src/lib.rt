@@ -1,7 +1,7 @@
 // The reversed lists of an iteration: each node's number once per member it has, and a list copied to every context.
-ghost use Prim.Native.Nat.{_+_, _*_, _≤_, _<_};
+ghost use Prim.Native.Nat.{_+_, _-_, _*_, _≤_, _<_};
 ghost use lib.ListN.{length};
-ghost use Rattle.backs.specs.Backs.{Lengths, FilledFrom, GatheredBack, PutBack};
+ghost use Rattle.backs.specs.Backs.{Lengths, FilledFrom, backs, GatheredBack, PutBack, Reversed};
 
 // Writes `count` times node `v` to `out` from `len` on.
 fn repeat(v: u32, count: usize, out: &mut [u32], len: usize)
@@ -44,4 +44,27 @@ pub fn put_back(src: &[u32], n: usize, at: usize, contexts: &mut [u32])
         members::put_members(src, &mut contexts[from..to]);
         i += 1;
     }
+}
+
+/// Makes the reversed list of the lists at `from` of every context in `scratch`, shuffles and cuts it if longer than `s`, writes it at
+/// `to` of every context, and returns where the next draw is.
+pub fn reverse(
+    contexts: &mut [u32],
+    n: usize,
+    s: usize,
+    from: usize,
+    to: usize,
+    draws: &[u32],
+    at: usize,
+    scratch: &mut [u32],
+) -> usize
+    requires { ⌜ (n ≤ 1024) × (s ≤ 64) × (from < 260) × (to + 65 ≤ 260) × (260 * n ≤ length (now contexts)) × Lengths n from (now contexts) × (64 * n ≤ length (now scratch)) ⌝ }
+    requires { ⌜ (at ≤ 131072) × (at + (length (backs from (now contexts) n) - 1) ≤ length (now draws)) ⌝ }
+    ensures { λ r. ⌜ Reversed n s from to (now (draws .entry)) at (now (contexts .entry)) (now (scratch .entry)) (now (contexts .exit)) (now (scratch .exit)) r ⌝ }
+{
+    let len = back_members(contexts, n, from, scratch);
+    let kept = shuffles::keep_back(&mut scratch[0..len], s, draws, at);
+    let next = shuffles::drawn_after(&scratch[0..len], s, at);
+    put_back(&scratch[0..kept], n, to, contexts);
+    next
 }

@@ -1,0 +1,3 @@
+-- `Contexts`: the contexts of a state, copied. `Meeting`: the passes over them.
+pub mod Contexts
+pub mod Meeting
