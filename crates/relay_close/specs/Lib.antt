@@ -1,0 +1,2 @@
+-- The entry `close`.
+pub mod Close
