@@ -2,7 +2,8 @@
 
    A call is u64: the entry (0 ends), the count of numbers, the numbers, the count of slices; then each slice as a u64 length and its u32 words
    (an f32 by its bits). The reply is five u64, what the entry said (unused ones 0), and then every slice, read-only ones too, with
-   GUARD words before it and behind it. Slices are separate allocations; guard words are GUARD_WORD. */
+   GUARD words before it and behind it. Slices are separate allocations; guard words are GUARD_WORD.
+   `lend spoil` turns one bit of each reply round, to see that the other program notices. */
 #include "spoonmeadow.h"
 #include <stdio.h>
 #include <stdlib.h>
@@ -16,6 +17,7 @@ static uint32_t *room[MOST_SLICES]; /* with the guards */
 static uint32_t *word[MOST_SLICES]; /* the slice itself */
 static float *lane[MOST_SLICES];    /* the same, as floats */
 static size_t length[MOST_SLICES];
+static uint64_t reply[5];
 
 static void must(int holds, const char *what) {
     if (!holds) {
@@ -57,14 +59,31 @@ static float number_as_float(size_t i) {
     return x;
 }
 
-static void say(spoonmeadow_said said) {
-    uint64_t reply[5] = {said.refusal, said.first, said.second, 0, 0};
-    put(reply, sizeof reply[0], 5);
+static void say(size_t refusal, size_t first, size_t second, size_t count, size_t other_count) {
+    reply[0] = refusal;
+    reply[1] = first;
+    reply[2] = second;
+    reply[3] = count;
+    reply[4] = other_count;
 }
 
-static void say_found(spoonmeadow_found found) {
-    uint64_t reply[5] = {found.refusal, found.first, found.second, found.m, found.takings};
-    put(reply, sizeof reply[0], 5);
+static void say_said(spoonmeadow_said s) {
+    say(s.refusal, s.first, s.second, 0, 0);
+}
+
+static void say_found(spoonmeadow_found f) {
+    say(f.refusal, f.first, f.second, f.m, f.takings);
+}
+
+/* One bit of what was said, or of one slice with its guards. */
+static void spoil(size_t slices) {
+    uint32_t bit = (uint32_t)1 << rand() % 32;
+    size_t which = (size_t)rand() % (slices + 1);
+    if (which == slices) {
+        reply[rand() % 5] ^= bit;
+    } else {
+        room[which][(size_t)rand() % (length[which] + 2 * GUARD)] ^= bit;
+    }
 }
 
 #define U(i) word[i], length[i]
@@ -73,7 +92,7 @@ static void say_found(spoonmeadow_found found) {
 static void call(uint64_t entry) {
     switch (entry) {
     case 1:
-        say(spoonmeadow_build(number[0], number[1], number[2], number_as_float(3), number[4], number[5], F(0), U(1), U(2), F(3)));
+        say_said(spoonmeadow_build(number[0], number[1], number[2], number_as_float(3), number[4], number[5], F(0), U(1), U(2), F(3)));
         break;
     case 2:
         say_found(spoonmeadow_search(number[0], number[1], F(0), U(1), number[2], U(2), F(3), number[3], U(4), U(5), U(6), F(7)));
@@ -83,7 +102,8 @@ static void call(uint64_t entry) {
     }
 }
 
-int main(void) {
+int main(int words, char **said) {
+    int spoils = words > 1 && strcmp(said[1], "spoil") == 0;
     for (;;) {
         uint64_t entry = one();
         if (entry == 0) {
@@ -98,6 +118,10 @@ int main(void) {
             get_slice(i);
         }
         call(entry);
+        if (spoils) {
+            spoil(slices);
+        }
+        put(reply, sizeof reply[0], 5);
         for (size_t i = 0; i < slices; i++) {
             put(room[i], sizeof(uint32_t), length[i] + 2 * GUARD);
             free(room[i]);

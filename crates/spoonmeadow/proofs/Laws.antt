@@ -8,11 +8,15 @@ use Rattle.rules.specs.declared.SearchAnswer.{SearchAnswer}
 use Rattle.rules.specs.Refusals.{Code, saidOf}
 use Rattle.rules.specs.BuildCall.{BuildLent}
 use Rattle.rules.specs.SearchCall.{SearchLent, SearchSaid, searchSaid}
+use Rattle.rules.specs.DescentCall.{DescentLent}
+use Rattle.rules.specs.RelayCall.{MoveLent}
 use Rattle.build.specs.Build as build
 use Rattle.search.specs.Search as search
+use Rattle.descent.specs.Descent as descent
+use Rattle.relay_move.specs.Move as move-job
 use Rattle.spoonmeadow.specs.declared.Said.{Said}
 use Rattle.spoonmeadow.specs.declared.Found.{Found}
-use Rattle.spoonmeadow.specs.Across.{codeIn, foundIn, Built, Searched}
+use Rattle.spoonmeadow.specs.Across.{codeIn, foundIn, Built, Searched, Begun, Moved}
 
 pub built : {l : BuildLent} {a : Answer} {s : Said} {graph su : List ℕ} {sf : List Float} → codeIn s ≡ saidOf a
     → build.Built l a graph su sf → Built l s graph su sf
@@ -27,3 +31,13 @@ searched {l} {a} {f} {nodes} {bits} {su} {sf} e s =
           ap (λ (said : SearchSaid). record { said = said; result-nodes = nodes; result-bits = bits; scratch-u = su; scratch-f = sf }) e
           ∙ s .whole;
     }
+
+pub begun : {l : DescentLent} {a : Answer} {s : Said} {us : List ℕ} {fs : List Float} {su : List ℕ} {sf : List Float} → codeIn s ≡ saidOf a
+    → descent.BegunAll l a us fs su sf → Begun l s us fs su sf
+begun {l} {a} {s} {us} {fs} {su} {sf} e b =
+    record { whole = ap (λ (said : Code). record { said = said; left = descent.left us fs su sf }) e ∙ b .whole }
+
+pub moved : {l : MoveLent} {a : Answer} {s : Said} {us : List ℕ} {fs : List Float} → codeIn s ≡ saidOf a
+    → move-job.Moved l a us fs → Moved l s us fs
+moved {l} {a} {s} {us} {fs} e m =
+    record { whole = ap (λ (said : Code). record { said = said; state-u = us; state-f = fs }) e ∙ m .whole }

@@ -6,6 +6,9 @@ use lib.Ieee.{Float}
 use Rattle.rules.specs.Refusals.{Code, code}
 use Rattle.rules.specs.BuildCall.{BuildLent, BuildOutcome, buildRule}
 use Rattle.rules.specs.SearchCall.{SearchLent, SearchSaid, SearchOutcome, searchRule}
+use Rattle.rules.specs.DescentCall.{DescentLent, beginRule}
+use Rattle.rules.specs.RelayCall.{MoveLent, MoveOutcome, moveRule}
+use Rattle.descent.specs.Descent.{left}
 use Rattle.spoonmeadow.specs.declared.Said.{Said}
 use Rattle.spoonmeadow.specs.declared.Found.{Found}
 
@@ -28,3 +31,12 @@ foundLeft f nodes bits su sf =
 
 pub record Searched (l : SearchLent) (r : Found) (nodes bits su : List ℕ) (sf : List Float) : Type 0 where
   pub whole : foundLeft r nodes bits su sf ≡ searchRule l
+
+pub record Begun (l : DescentLent) (r : Said) (us : List ℕ) (fs : List Float) (su : List ℕ) (sf : List Float) : Type 0 where
+  pub whole : record { said = codeIn r; left = left us fs su sf } ≡ beginRule l
+
+abbrev pub moveLeft : Said → List ℕ → List Float → MoveOutcome
+moveLeft s us fs = record { said = codeIn s; state-u = us; state-f = fs }
+
+pub record Moved (l : MoveLent) (r : Said) (us : List ℕ) (fs : List Float) : Type 0 where
+  pub whole : moveLeft r us fs ≡ moveRule l

@@ -5,7 +5,9 @@ ghost use Rattle.rules.specs.SearchCall.{searchSaid};
 ghost use Rattle.params.specs.Params.{params};
 ghost use Rattle.build.specs.Build.{lent as buildLent};
 ghost use Rattle.search.specs.Search.{lent as searchLent};
-ghost use Rattle.spoonmeadow.specs.Across.{codeIn, foundIn, Built, Searched};
+ghost use Rattle.descent.specs.Descent.{lent as descentLent};
+ghost use Rattle.relay_move.specs.Move.{lent as moveLent};
+ghost use Rattle.spoonmeadow.specs.Across.{codeIn, foundIn, Built, Searched, Begun, Moved};
 use params::SsgParams;
 use rules::Answer;
 use rules::Refusal;
@@ -154,4 +156,50 @@ pub extern "C" fn spoonmeadow_search(
         scratch_f,
     );
     of_search(a)
+}
+
+/// `begin` for C.
+#[no_mangle]
+pub extern "C" fn spoonmeadow_begin(
+    dimension: usize,
+    n: usize,
+    lanes: &[f32],
+    k: usize,
+    s: usize,
+    draws: &[u32],
+    state_u: &mut [u32],
+    state_f: &mut [f32],
+    scratch_u: &mut [u32],
+    scratch_f: &mut [f32],
+) -> Said
+    ensures { λ r. ⌜ Begun (descentLent dimension n (now (lanes .entry)) k s (now (draws .entry)) (now («state_u» .entry)) (now («state_f» .entry)) (now («scratch_u» .entry)) (now («scratch_f» .entry))) r (now («state_u» .exit)) (now («state_f» .exit)) (now («scratch_u» .exit)) (now («scratch_f» .exit)) ⌝ }
+{
+    let a = descent::begin(
+        dimension,
+        n,
+        lanes,
+        k,
+        s,
+        draws,
+        state_u,
+        state_f,
+        scratch_u,
+        scratch_f,
+    );
+    of_answer(a)
+}
+
+/// `move_job` for C.
+#[no_mangle]
+pub extern "C" fn spoonmeadow_move_job(
+    n: usize,
+    k: usize,
+    job: usize,
+    state_u: &mut [u32],
+    state_f: &mut [f32],
+) -> Said
+    ensures { λ r. ⌜ Moved (moveLent n k job (now («state_u» .entry)) (now («state_f» .entry))) r (now («state_u» .exit)) (now («state_f» .exit)) ⌝ }
+{
+    let a = relay_move::move_job(n, k, job, state_u, state_f);
+    of_answer(a)
 }

@@ -38,8 +38,10 @@ pub struct Library {
 }
 
 impl Library {
-    pub fn start(program: &str) -> Self {
+    /// The program, told to spoil its replies or not.
+    pub fn start(program: &str, spoils: bool) -> Self {
         let mut child = Command::new(program)
+            .args(spoils.then_some("spoil"))
             .stdin(Stdio::piped())
             .stdout(Stdio::piped())
             .spawn()

@@ -12,10 +12,10 @@ struct Counts {
     said: [usize; 14],
 }
 
-#[derive(Default)]
 pub struct Tally {
     kinds: Vec<(&'static str, Counts)>,
-    shown: usize,
+    /// How many differences may still be told in full.
+    to_show: usize,
 }
 
 /// Runs a maker of cases without counting the branches that it meets.
@@ -27,8 +27,14 @@ pub fn uncounted<T>(make: impl FnOnce() -> T) -> T {
 }
 
 impl Tally {
+    pub fn new(to_show: usize) -> Self {
+        let kinds = Vec::new();
+        Tally { kinds, to_show }
+    }
+
     fn counts(&mut self, kind: &'static str) -> &mut Counts {
         if !self.kinds.iter().any(|(k, _)| *k == kind) {
+            eprintln!("{} ..", kind);
             self.kinds.push((kind, Counts::default()));
         }
         &mut self.kinds.iter_mut().find(|(k, _)| *k == kind).unwrap().1
@@ -41,10 +47,10 @@ impl Tally {
     /// A difference of any sort; the first few are told in full.
     pub fn differs(&mut self, kind: &'static str, seed: u64, what: &str) {
         self.counts(kind).differed += 1;
-        if self.shown < 20 {
+        if self.to_show > 0 {
             println!("DIFFERS: {}, case seed {}: {}", kind, seed, what);
+            self.to_show -= 1;
         }
-        self.shown += 1;
     }
 
     /// One call through the library, held to what is expected of it; what it left.
@@ -64,6 +70,10 @@ impl Tally {
             self.differs(kind, seed, &what);
         }
         reply.outcome
+    }
+
+    pub fn calls(&self) -> usize {
+        self.kinds.iter().map(|(_, c)| c.calls).sum()
     }
 
     pub fn differing(&self) -> usize {
