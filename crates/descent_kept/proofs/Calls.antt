@@ -63,7 +63,7 @@ module _ (l : DescentLent) where
     rows : All Fails (iterateTable l)
     rows = all-fail (iterateTable l) h
 
-    iterate-sizes : Sizes (l .n) (l .k) (l .s)
+    pub iterate-sizes : Sizes (l .n) (l .k) (l .s)
     unfolding iterateTable iterateRows descentRows row2 row4
     iterate-sizes =
         let four = none-hold (outside 1 most (l .k) ∷ outside 1 (l .k) (l .s) ∷ []) (rows .1 .1 .1 .0) in
