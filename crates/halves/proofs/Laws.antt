@@ -95,6 +95,7 @@ module _ {ns : List ℕ} {ds : List Float} {len : ℕ} (room : Roomed ns ds len)
   list-kept s h =
       record {
         count = sym long ∙ ap length (sym h);
+        few = room .long;
         nodes = room .nodes ∙ ap (λ (x : List Neighbor). padded (length ns) 0 (nodesOf x)) (sym h);
         dists = room .dists ∙ ap (λ (x : List Neighbor). padded (length ns) zero32 (distancesOf x)) (sym h);
       }
@@ -120,7 +121,7 @@ module _ {ns : List ℕ} {ds : List Float} {len : ℕ} (room : Roomed ns ds len)
       let p = list-put (insert e l) ns' ds' r (omega arith) (omega arith) (omega arith) (made .list)
       (made .nodes-rest ∙ behind 0 (length ns) r (nodesOf l) ns (room .nodes) (let d = length-nodes l in omega arith))
       (made .dists-rest ∙ behind zero32 (length ns) r (distancesOf l) ds (room .dists) (let d = length-distances l in omega arith)) in
-      rw (s, eq-eqb t 1 g) (record { count = p .0; nodes = p .1; dists = p .2 })
+      rw (s, eq-eqb t 1 g) (record { count = p .0; few = omega arith; nodes = p .1; dists = p .2 })
 
   pub list-popped : (steps longer : ℕ) (t : Bool) {ns' : List ℕ} {ds' : List Float} {r : ℕ} → steps ≡ 3 → longer ≡ 1 → Popped ns ds len ns' ds' r → NextList ns ds len e (stageIn steps t (eqb longer 1)) ns' ds' r
   unfolding nextList stageIn pop
@@ -135,7 +136,7 @@ module _ {ns : List ℕ} {ds : List Float} {len : ℕ} (room : Roomed ns ds len)
       let p = list-put (take (length l - 1) l) ns' ds' r (length-take-le (length l - 1) l (omega arith) ∙ one) (omega arith) (omega arith) (made .list ∙ ap (λ (i : ℕ). take i l) (sym one))
       (ap (drop r) (made .nodes) ∙ freed 0 (length ns) r (nodesOf l) ns (room .nodes) (let d = length-nodes l in omega arith) (omega arith) (omega arith))
       (ap (drop r) (made .dists) ∙ freed zero32 (length ns) r (distancesOf l) ds (room .dists) (let d = length-distances l in omega arith) (omega arith) (omega arith)) in
-      rw (s, eq-eqb longer 1 g) (record { count = p .0; nodes = p .1; dists = p .2 })
+      rw (s, eq-eqb longer 1 g) (record { count = p .0; few = omega arith; nodes = p .1; dists = p .2 })
 
 -- ---- stages at which the list stays
 

@@ -27,5 +27,6 @@ pub record Roomed (ns : List ℕ) (ds : List Float) (len : ℕ) : Type 0 where
 -- the next list in the same room
 pub record NextList (ns : List ℕ) (ds : List Float) (len : ℕ) (e : Neighbor) (s : Stage) (ns' : List ℕ) (ds' : List Float) (r : ℕ) : Type 0 where
   pub count : r ≡ length (nextList e (entries len ns ds) s)
+  pub few : r ≤ length ns
   pub nodes : ns' ≡ padded (length ns) 0 (nodesOf (nextList e (entries len ns ds) s))
   pub dists : ds' ≡ padded (length ns) zero32 (distancesOf (nextList e (entries len ns ds) s))

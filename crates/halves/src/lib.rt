@@ -56,7 +56,7 @@ pub fn next_flags(
     taken: u32,
     longer: u32,
 ) -> Flags
-    requires { ⌜ (1 ≤ len) × (len ≤ length (now nodes)) × (len ≤ length (now dists)) ⌝ }
+    requires { ⌜ (1 ≤ k) × (k ≤ len) × (len ≤ length (now nodes)) × (len ≤ length (now dists)) ⌝ }
     requires { ⌜ (steps ≤ 3) × (taken ≤ 1) × (longer ≤ 1) ⌝ }
     ensures { λ r. ⌜ NextFlags k equal e (entries len (now (nodes .entry)) (now (dists .entry))) (stageIn steps (eqb taken 1) (eqb longer 1)) r ⌝ }
 {

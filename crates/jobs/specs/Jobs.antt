@@ -4,7 +4,7 @@ use mathlib.Core.Bool.{Bool, cond, _&&_}
 use mathlib.Core.List.{List}
 use Prim.Native.Nat.{ℕ, _+_, _≤_}
 use lib.Dec.{eqb}
-use lib.ListN.{take}
+use lib.ListN.{take, getD, set}
 use lib.Ieee.{Float, binary32, toBits}
 use Rattle.rules.specs.Distance.{fit}
 use Rattle.rules.specs.Relay.{Job, takenOf, longerOf, bit}
@@ -36,3 +36,7 @@ pendingBy w j = cond (eqb (j .u) w) (pending (j .first)) 0 + cond (eqb (j .v) w)
 pub record PendingJob (ws : List ℕ) (w r : ℕ) : Type 0 where
   pub is : (x : Float) → r ≡ pendingBy w (jobIn ws x)
   pub few : r ≤ 2
+
+-- the words of a job after a step of the half whose words are at half
+abbrev pub keptWords : List ℕ → ℕ → ℕ → ℕ → List ℕ
+keptWords ws half taken longer = set (set (set ws 2 (getD ws 2 0 + 1)) half taken) (half + 1) longer

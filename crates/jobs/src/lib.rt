@@ -1,8 +1,8 @@
 // The words of one job of a relay: u, v, the steps done, the report and the measure of each half, 8 spare words of 0.
 ghost use mathlib.Core.Path.{_≡_};
 ghost use Prim.Native.Nat.{_-_, _≤_};
-ghost use lib.ListN.{length};
-ghost use Rattle.jobs.specs.Jobs.{halfFormed, distanceFormed, jobTest, PendingHalf, PendingJob};
+ghost use lib.ListN.{length, getD};
+ghost use Rattle.jobs.specs.Jobs.{halfFormed, distanceFormed, jobTest, PendingHalf, PendingJob, keptWords};
 
 /// The steps done of the second half, of all steps done.
 pub fn second(steps: usize) -> usize
@@ -110,4 +110,14 @@ pub fn pending(words: &[u32], w: usize) -> usize
     let first = pending_half(words[0] as usize, w, steps, words[3]);
     let later = pending_half(words[1] as usize, w, second(steps), words[5]);
     first + later
+}
+
+/// Keeps what one step of a job left: one more step done, and the report and measure of the half whose words are at `half`.
+pub fn keep(words: &mut [u32], half: usize, taken: u32, longer: u32)
+    requires { ⌜ (15 ≤ length (now words)) × (half ≤ 5) × (getD (now words) 2 0 ≤ 7) ⌝ }
+    ensures { λ _. ⌜ now (words .exit) ≡ keptWords (now (words .entry)) half taken longer ⌝ }
+{
+    words[2] += 1;
+    words[half] = taken;
+    words[half + 1] = longer;
 }

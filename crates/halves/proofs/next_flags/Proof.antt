@@ -27,7 +27,7 @@ returns-3 : tie.Need-returns-3
 returns-3 c =
     let p = c .before .before .before .before .before .before .pre .0 in
     let a = c .before .before .before .before .before .before .args in
-    flags-measured _ _ _ _ _ _ _ _ (c .before .if3 .taken) (c .before .before .before .before .before .before .pre .1 .1) (c .measure-flag .ensures ∙ ap (λ (i : ℕ). bit (eqb (a .taken) 1 && ltb (a .k) i)) (sym (length-entries _ _ _ (p .1) (p .2))))
+    flags-measured _ _ _ _ _ _ _ _ (c .before .if3 .taken) (c .before .before .before .before .before .before .pre .1 .1) (c .measure-flag .ensures ∙ ap (λ (i : ℕ). bit (eqb (a .taken) 1 && ltb (a .k) i)) (sym (length-entries _ _ _ (p .2) (p .3))))
 
 returns-4 : tie.Need-returns-4
 returns-4 c =
