@@ -108,7 +108,7 @@ module _ (l : OpenLent) (O : Opens l) where
         go false e = leb-false (length (R .jobs)) (firstFrom p 0 (length (R .jobs))) e
 
     closed-finishes : (c : Room l) → closed l order c .said ≡ noRefusal → Finishes l order
-    closed-finishes c a i h = go (leb 8 (count i order)) refl
+    closed-finishes c a i h = let e = go (leb 8 (count i order)) refl in omega arith
       where
         go : (b : Bool) → leb 8 (count i order) ≡ b → 8 ≤ count i order
         go true e = leb-true 8 (count i order) e
