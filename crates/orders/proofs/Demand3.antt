@@ -1,21 +1,23 @@
 -- Demand 3 holds of every opening (`specs/Demand3.antt` states it). Assumes nothing.
 use mathlib.Core.Path.{_≡_, refl, sym, ap, _∙_, subst}
-use mathlib.Core.Bool.{Bool, true, false, _||_, cond, true≢false}
+use mathlib.Core.Bool.{Bool, true, false, not, _||_, cond, true≢false}
 use mathlib.Core.List.{List, [], _++_}
 use Prim.Native.Nat.{ℕ, _+_, _*_, _≤_, _<_}
 use native.Mathlib.Omega.{arith}
 use lib.Dec.{eqb, leb}
 use lib.ListN.{length, drop, getD, List·getD-append, length-append}
 use lib.Seq.{take-all, ext-getD}
+use borrow.Author.Tests.{leb-true, leb-false}
 use Rattle.rules.specs.declared.Neighbor.{Neighbor}
-use Rattle.rules.specs.Loops.{over}
+use Rattle.rules.specs.Loops.{over, firstFrom}
 use Rattle.rules.specs.Distance.{zero32}
 use Rattle.rules.specs.Lists.{neighbor, least}
-use Rattle.rules.specs.Refusals.{noRefusal, code}
+use Rattle.rules.specs.Refusals.{Code, noRefusal, code}
 use Rattle.rules.specs.Descent.{listAt}
-use Rattle.rules.specs.Relay.{takenOf, Job, Relay, equalNodes, isFinished, noJob, jobAt, jobOf, bit, reportsOf}
+use Rattle.rules.specs.Relay.{takenOf, Job, Relay, equalNodes, isFinished, noJob, jobAt, lowestUnfinished, jobOf, bit, reportsOf}
 use Rattle.rules.specs.Places.{listWords, listFloats, listsIn}
 use Rattle.rules.specs.RelayCall.{OpenLent, openedOn, MoveOutcome, CloseOutcome, closeRule}
+use Rattle.rules.proofs.Loops.{first-before}
 use Rattle.lists.specs.Ascending.{AllHoldable}
 use Rattle.lists.specs.All.{All}
 use Rattle.lists.proofs.Laws.{holdable-append}
@@ -24,7 +26,7 @@ use Rattle.encoded.specs.Words.{Rows}
 use Rattle.encoded.proofs.Lists.{lists-whole}
 use Rattle.relay_kept.specs.Formed.{Formed}
 use Rattle.relay_kept.specs.Halves.{target, entryOf, stageOf}
-use Rattle.relay_kept.proofs.Calls.{move-leaves, move-refused, close-gives}
+use Rattle.relay_kept.proofs.Calls.{move-leaves, move-refused, close-gives, close-refused}
 use Rattle.relay_kept.proofs.Opening.{passed-open}
 use Rattle.orders.specs.Runs.{ran, count}
 use Rattle.orders.specs.Least.{IsLeast}
@@ -88,6 +90,35 @@ module _ (l : OpenLent) (O : Opens l) where
         or-true : (a b : Bool) → b ≡ true → (a || b) ≡ true
         or-true true b e = refl
         or-true false b e = e
+
+    -- a close that answers has found all finished
+    unfinished-lowest : (i : ℕ) → i < pairs l → count i order < 8 → lowestUnfinished R < length (R .jobs)
+    unfolding lowestUnfinished
+    unfinished-lowest i h c = go (leb (length (R .jobs)) (firstFrom p 0 (length (R .jobs)))) refl
+      where
+        p : ℕ → Bool
+        p x = not (isFinished (jobAt R x))
+
+        go : (b : Bool) → leb (length (R .jobs)) (firstFrom p 0 (length (R .jobs))) ≡ b → firstFrom p 0 (length (R .jobs)) < length (R .jobs)
+        go true e =
+            let g = leb-true (length (R .jobs)) (firstFrom p 0 (length (R .jobs))) e in
+            let n = run-length l order in
+            let f = first-before p 0 (length (R .jobs)) i (omega arith) (omega arith) in
+            absurd (true≢false (sym (ap not (is-unfinished l order i h c)) ∙ f))
+        go false e = leb-false (length (R .jobs)) (firstFrom p 0 (length (R .jobs))) e
+
+    closed-finishes : (c : Room l) → closed l order c .said ≡ noRefusal → Finishes l order
+    closed-finishes c a i h = let e = go (leb 8 (count i order)) refl in omega arith
+      where
+        go : (b : Bool) → leb 8 (count i order) ≡ b → 8 ≤ count i order
+        go true e = leb-true 8 (count i order) e
+        go false e =
+            let u = unfinished-lowest i h (leb-false 8 (count i order) e) in
+            let s =
+            ap (λ (s : State). closeRule (record { n = l .n; k = l .k; state-u = s .words; state-f = s .floats; nodes = c .nodes; distances = c .distances; reports = c .reports }) .said) (after-is l O order)
+            ∙ close-refused (sizes l O) R F (c .nodes) (c .distances) (c .reports) (c .nodes-long) (c .distances-long) (c .reports-long) u in
+            let z : _≡_ {A = ℕ} 13 0 = ap (λ (x : Code). x .number) (sym s ∙ a) in
+            absurd (omega arith)
 
     -- ---- when all are finished
 
@@ -234,6 +265,7 @@ module _ (l : OpenLent) (O : Opens l) where
         succeeds = move-succeeds;
         is-over = move-over;
         exists = in-turn l;
+        finishes = closed-finishes;
         finished = finished-is;
         same-nodes = λ (order other : List ℕ) (D : Finishes l order) (E : Finishes l other) (c : Room l).
             ap (λ (o : CloseOutcome). o .nodes) (closed-is order D c) ∙ ap listWords (same-lists order other D E) ∙ sym (ap (λ (o : CloseOutcome). o .nodes) (closed-is other E c));

@@ -173,7 +173,8 @@ pub record Demand3 (l : OpenLent) : Type 0 where
   pub succeeds : (order : List ℕ) (i : ℕ) → i < pairs l → count i order < 8 → moveOf l i (after l order) .said ≡ noRefusal
   pub is-over : (order : List ℕ) (i : ℕ) → i < pairs l → 8 ≤ count i order → moveOf l i (after l order) .said ≡ code 13 i 0
   pub exists : Finishes l (inTurn l)
-  -- "When all are finished"
+  -- "When all are finished", and no sooner: a close that answers has found them so
+  pub finishes : (order : List ℕ) (c : Room l) → closed l order c .said ≡ noRefusal → Finishes l order
   pub finished : (order : List ℕ) → Finishes l order → (c : Room l) → Finished l order c
   -- "So no order of the heads changes a list."
   pub same-nodes : (order other : List ℕ) → Finishes l order → Finishes l other → (c : Room l) → closed l order c .nodes ≡ closed l other c .nodes

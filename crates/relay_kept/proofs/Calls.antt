@@ -3,12 +3,12 @@ use mathlib.Core.Path.{_≡_, ap, _∙_}
 use mathlib.Core.Bool.{true, false, not, _||_}
 use mathlib.Core.List.{List, [], _∷_}
 use Prim.Native.Nat.{ℕ, _*_, _≤_, _<_}
-use lib.Dec.{leb}
+use lib.Dec.{leb, ltb}
 use lib.ListN.{length}
 use lib.Ieee.{Float}
-use borrow.Author.Tests.{lt-leb, le-ltb}
+use borrow.Author.Tests.{lt-leb, le-ltb, lt-ltb}
 use Rattle.rules.specs.Numbers.{most, mostTaught, outside}
-use Rattle.rules.specs.Refusals.{noRefusal, code, passed, decide, notExactly, row2, row4, row6, row12, row13}
+use Rattle.rules.specs.Refusals.{noRefusal, code, Decision, passed, decide, notExactly, row2, row4, row6, row12, row13}
 use Rattle.rules.specs.Calls.{relayWords, relayFloats, moveRows, closeRows}
 use Rattle.rules.specs.Loops.{over}
 use Rattle.rules.specs.Relay.{Relay, moved, isFinished, jobAt, lowestUnfinished, reportsOf}
@@ -77,7 +77,7 @@ module _ {n k : ℕ} (Z : Sizes n k) (r : Relay) (F : Formed n k r) where
       (decide-append rs (row13 wrong i ∷ []) p ∙ held (row13 wrong i) [] (ap (λ (x : Relay). leb (length (x .jobs)) i || isFinished (jobAt x i)) back ∙ h))
 
   -- a close that finds every job finished
-  module _ (nodes : List ℕ) (distances : List Float) (reports : List ℕ) (ns : length nodes ≡ n * k) (ds : length distances ≡ n * k) (rs : length reports ≡ 128) where
+  module _ (nodes : List ℕ) (distances : List Float) (reports : List ℕ) (ns : length nodes ≡ n * k) (ds : length distances ≡ n * k) (rs-long : length reports ≡ 128) where
     abbrev pub closed : CloseLent
     closed = record { n = n; k = k; state-u = relayState k r; state-f = relayStateFloats k r; nodes = nodes; distances = distances; reports = reports }
 
@@ -92,7 +92,7 @@ module _ {n k : ℕ} (Z : Sizes n k) (r : Relay) (F : Formed n k r) where
               hold-none
                   (notExactly (relayWords n k) (length (relayState k r)) ∷ notExactly (relayFloats n k) (length (relayStateFloats k r)) ∷ notExactly (n * k) (length nodes)
                   ∷ notExactly (n * k) (length distances) ∷ notExactly 128 (length reports) ∷ [])
-                  (long-us, (long-fs, (is-exactly (n * k) (length nodes) ns, (is-exactly (n * k) (length distances) ds, (is-exactly 128 (length reports) rs, tt))))),
+                  (long-us, (long-fs, (is-exactly (n * k) (length nodes) ns, (is-exactly (n * k) (length distances) ds, (is-exactly 128 (length reports) rs-long, tt))))),
               (formed-not, (rw (back, le-ltb (lowestUnfinished r) (length (r .jobs)) u), tt)),
             ),
           ),
@@ -109,3 +109,31 @@ module _ {n k : ℕ} (Z : Sizes n k) (r : Relay) (F : Formed n k r) where
         }
     unfolding closeRule closeObeys
     close-gives u = rw (close-passes u, back)
+
+    -- "a close with one unfinished": 13, and the lowest of them
+    pub close-refused : lowestUnfinished r < length (r .jobs) → closeRule closed .said ≡ code 13 (lowestUnfinished r) 0
+    unfolding closeRule closeObeys closeTable closeRows row2 row4 row6 row12 row13
+    close-refused u =
+        let us = relayState k r in
+        let fs = relayStateFloats k r in
+        let lengths =
+        notExactly (relayWords n k) (length us) ∷ notExactly (relayFloats n k) (length fs) ∷ notExactly (n * k) (length nodes)
+        ∷ notExactly (n * k) (length distances) ∷ notExactly 128 (length reports) ∷ [] in
+        let rs = row2 mostTaught n ∷ row4 (outside 1 most k ∷ []) ∷ row6 lengths ∷ row12 (relayFormed n k us fs) ∷ [] in
+        let read = relayIn n k us fs in
+        let p =
+        all-pass rs (
+          Z .nodes,
+          (
+            hold-none (outside 1 most k ∷ []) (Z .size, tt),
+            (
+              hold-none lengths
+                  (long-us, (long-fs, (is-exactly (n * k) (length nodes) ns, (is-exactly (n * k) (length distances) ds, (is-exactly 128 (length reports) rs-long, tt))))),
+              (formed-not, tt),
+            ),
+          ),
+        ) in
+        let t : ltb (lowestUnfinished read) (length (read .jobs)) ≡ true = rw back (lt-ltb (lowestUnfinished r) (length (r .jobs)) u) in
+        let e = decide-append rs (row13 (ltb (lowestUnfinished read) (length (read .jobs))) (lowestUnfinished read) ∷ []) p in
+        let f = held (row13 (ltb (lowestUnfinished read) (length (read .jobs))) (lowestUnfinished read)) [] t in
+        ap (λ (x : Decision). closeObeys closed x .said) (e ∙ f) ∙ ap (λ (x : Relay). code 13 (lowestUnfinished x) 0) back
