@@ -1,0 +1,2 @@
+-- `Rooms`: each list in its room.
+pub mod Rooms
