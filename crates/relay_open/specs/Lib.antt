@@ -1,0 +1,2 @@
+-- The entry `open`.
+pub mod Open
