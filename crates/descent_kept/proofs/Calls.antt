@@ -1,14 +1,14 @@
 -- The state that begin or an iteration leaves is well formed, so the next iteration is not refused with 12. Assumes nothing.
-use mathlib.Core.Path.{_≡_, refl, sym, ap, _∙_, subst}
-use mathlib.Core.Bool.{Bool, true, false, not}
-use mathlib.Core.List.{List, [], _∷_}
+use mathlib.Core.Path.{_≡_}
+use mathlib.Core.Bool.{true, false}
+use mathlib.Core.List.{[], _∷_}
 use Prim.Native.Nat.{ℕ, _*_, _≤_, _<_}
 use native.Mathlib.Omega.{arith}
 use lib.ListN.{length}
 use borrow.Author.Tests.{not-false}
 use Rattle.rules.specs.Numbers.{most, mostTaught, outside}
 use Rattle.rules.specs.Distance.{between}
-use Rattle.rules.specs.Refusals.{Row, passed, decide, row2, row4, row6, row12}
+use Rattle.rules.specs.Refusals.{passed, decide, row2, row4, row6, row12}
 use Rattle.rules.specs.Calls.{descentWords, descentRows, beginRows, iterateRows}
 use Rattle.rules.specs.Descent.{Descent, begun, iterated}
 use Rattle.rules.specs.DescentPlaces.{descentIn, descentFormed}
@@ -63,7 +63,7 @@ module _ (l : DescentLent) where
     rows : All Fails (iterateTable l)
     rows = all-fail (iterateTable l) h
 
-    iterate-sizes : Sizes (l .n) (l .k) (l .s)
+    pub iterate-sizes : Sizes (l .n) (l .k) (l .s)
     unfolding iterateTable iterateRows descentRows row2 row4
     iterate-sizes =
         let four = none-hold (outside 1 most (l .k) ∷ outside 1 (l .k) (l .s) ∷ []) (rows .1 .1 .1 .0) in

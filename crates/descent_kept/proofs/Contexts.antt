@@ -1,15 +1,15 @@
 -- The context lists that begin and an iteration make are at most 64 long and name nodes below n. Assumes nothing.
-use mathlib.Core.Path.{_≡_, refl, sym, ap, _∙_, subst}
-use mathlib.Core.Bool.{Bool, true, false, cond, not, _&&_, true≢false}
-use mathlib.Core.List.{List, [], _∷_, _++_}
-use Prim.Native.Nat.{ℕ, zero, suc, _+_, _-_, _*_, _%_, _≤_, _<_, min}
+use mathlib.Core.Path.{_≡_, refl}
+use mathlib.Core.Bool.{Bool, true, false, cond, not, _&&_}
+use mathlib.Core.List.{List, [], _∷_}
+use Prim.Native.Nat.{ℕ, zero, suc, _+_, _-_, _*_, _≤_, _<_}
 use native.Mathlib.Nat.{mod-lt}
 use native.Mathlib.Omega.{arith}
 use lib.Dec.{eqb, ltb}
-use lib.ListN.{length, take, drop, getD, set, replicate, length-take, length-drop, length-append}
+use lib.ListN.{length, take, drop, getD, set, replicate, length-take, length-drop}
 use borrow.Author.Tests.{ltb-true, ltb-false}
 use Rattle.rules.specs.declared.Neighbor.{Neighbor}
-use Rattle.rules.specs.Loops.{each, turns}
+use Rattle.rules.specs.Loops.{each}
 use Rattle.rules.specs.Lists.{nodeOf}
 use Rattle.rules.specs.Offers.{entryFormed, entriesFormed, ascending, listFormed}
 use Rattle.rules.specs.Descent.{Context, listAt, drawn, drawsFrom, beginContext, isVisited, newOf, oldOf, swap, shuffleFrom, shuffle, keptNew, keptBack, Renewed, renew, renewAll, membersBack, reversedOld, reversedNew, contextOf}

@@ -1,20 +1,20 @@
 -- What begin writes is well formed, and what an iteration writes of a well-formed descent. Assumes nothing.
-use mathlib.Core.Path.{_≡_, refl, sym, ap, _∙_, subst}
+use mathlib.Core.Path.{_≡_, refl, sym, _∙_, subst}
 use mathlib.Core.Bool.{Bool, true, false}
 use mathlib.Core.List.{List, [], _∷_}
 use Prim.Native.Nat.{ℕ, zero, suc, _+_, _*_, _≤_, _<_}
 use native.Mathlib.Omega.{arith}
-use lib.ListN.{length, getD, set, replicate, length-replicate, length-set, getD-replicate}
-use lib.Ieee.{Float, binary32, toBits, ofBits}
+use lib.ListN.{length, getD, replicate, length-replicate, length-set, getD-replicate}
+use lib.Ieee.{binary32, toBits, ofBits}
 use lib.Dec.{eqb}
 use borrow.Author.Tests.{eq-eqb}
 use Rattle.rules.specs.declared.Neighbor.{Neighbor}
-use Rattle.rules.specs.Loops.{each, turns, through}
+use Rattle.rules.specs.Loops.{each, through}
 use Rattle.rules.specs.Distance.{fit}
 use Rattle.rules.specs.Build.{Between}
 use Rattle.rules.specs.Rows.{emptySlot, emptyDistance}
-use Rattle.rules.specs.Offers.{unfilled, emptyBits, entryFormed, entriesFormed, ascending, listFormed}
-use Rattle.rules.specs.Descent.{Context, Descent, listAt, beginContext, begun, Met, meetAll, unvisit, Renewed, renewAll, unvisitAll, contextOf, Iterated, renewed, iterated}
+use Rattle.rules.specs.Offers.{unfilled, emptyBits, entryFormed, entriesFormed, listFormed}
+use Rattle.rules.specs.Descent.{Descent, beginContext, begun, Met, meetAll, unvisit, renewAll, unvisitAll, contextOf, renewed, iterated}
 use Rattle.neighbor.specs.Holdable.{Holdable}
 use Rattle.neighbor.proofs.Bits.{holdable-empty}
 use Rattle.neighbor.proofs.Order.{irreflexive}
@@ -23,9 +23,9 @@ use Rattle.lists.specs.All.{All}
 use Rattle.lists.proofs.Plain.{all-at, all-of, all-weaker}
 use Rattle.steps.proofs.Formed.{of-ascending, and-join, Kept}
 use Rattle.encoded.proofs.Rows.{length-ones, all-ones}
-use Rattle.descent_kept.specs.Formed.{Each, Few, Below, Fitting, Formed}
+use Rattle.descent_kept.specs.Formed.{Each, Few, Below, Formed}
 use Rattle.descent_kept.proofs.Lists.{through-keeps, turns-keeps, Lists, Meeting, all-meet}
-use Rattle.descent_kept.proofs.Contexts.{Good, good-begin, good-context, few-each, below-each, Renewing, all-renewed}
+use Rattle.descent_kept.proofs.Contexts.{Good, good-begin, good-context, few-each, below-each, all-renewed}
 
 -- ---- unfilled lists
 

@@ -1,12 +1,11 @@
 -- Updates of pairs of nodes below n keep the lists well formed and at k entries, and marks keep the flags of all pairs. Assumes nothing.
 use mathlib.Core.Path.{_≡_, refl, sym, ap, _∙_, subst}
-use mathlib.Core.Bool.{Bool, true, false, cond, not}
+use mathlib.Core.Bool.{Bool, true, false, cond}
 use mathlib.Core.List.{List, [], _∷_, _++_, map}
-use Prim.Native.Nat.{ℕ, zero, suc, _+_, _*_, _≤_, _<_, min}
-use native.Mathlib.Nat.{zero-lt-suc}
+use Prim.Native.Nat.{ℕ, zero, suc, _+_, _*_, _≤_, _<_}
 use native.Mathlib.Omega.{arith}
 use lib.Dec.{eqb, ltb}
-use lib.ListN.{length, take, getD, set, length-set, length-take}
+use lib.ListN.{length, set, length-set, length-take}
 use lib.Seq.{getD-set-same, getD-set-other}
 use lib.Ieee.{Float}
 use borrow.Author.Tests.{eqb-true, eqb-false}
@@ -20,7 +19,7 @@ use Rattle.rules.specs.Descent.{Context, listAt, Pair, pair, cross, ownPairs, r
 use Rattle.neighbor.specs.Holdable.{Holdable}
 use Rattle.lists.specs.All.{All}
 use Rattle.lists.proofs.Laws.{length-insert}
-use Rattle.lists.proofs.Plain.{all-append, all-map}
+use Rattle.lists.proofs.Plain.{all-append}
 use Rattle.steps.proofs.Formed.{entry-formed, Kept, kept-ascending, kept-offer}
 use Rattle.steps.proofs.Laws.{offer-least}
 use Rattle.descent_kept.specs.Formed.{Each, Below}

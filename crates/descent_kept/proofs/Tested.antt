@@ -1,15 +1,15 @@
 -- The test of a lent state holds exactly of the encodings of well-formed descents. Assumes nothing.
-use mathlib.Core.Path.{_≡_, refl, sym, ap, _∙_, subst}
-use mathlib.Core.Bool.{Bool, true, false, _&&_}
-use mathlib.Core.List.{List, [], _∷_, _++_}
-use Prim.Native.Nat.{ℕ, _+_, _*_, _/_, _≤_, _<_}
+use mathlib.Core.Path.{_≡_, refl}
+use mathlib.Core.Bool.{true, _&&_}
+use mathlib.Core.List.{List, [], _∷_}
+use Prim.Native.Nat.{ℕ, _+_, _*_, _≤_, _<_}
 use native.Mathlib.Omega.{arith}
 use lib.Dec.{T, ltb}
 use lib.ListN.{length, take, drop, getD, length-take}
 use lib.Ieee.{Float, binary32, fits}
 use borrow.Author.Tests.{ltb-true, lt-ltb}
 use Rattle.rules.specs.declared.Neighbor.{Neighbor}
-use Rattle.rules.specs.Loops.{each, part}
+use Rattle.rules.specs.Loops.{part}
 use Rattle.rules.specs.Numbers.{most}
 use Rattle.rules.specs.Lists.{entries, distancesOf}
 use Rattle.rules.specs.Calls.{descentWords}
@@ -18,12 +18,12 @@ use Rattle.rules.specs.Descent.{Context, Descent, listAt}
 use Rattle.rules.specs.Places.{sameWords, sameFloats, listFloats, listsIn}
 use Rattle.rules.specs.DescentPlaces.{descentState, membersIn, contextIn, bitAt, descentIn, membersFormed, contextsFormed, descentFormed}
 use Rattle.lists.specs.All.{All}
-use Rattle.lists.proofs.Plain.{all-append, all-of}
+use Rattle.lists.proofs.Plain.{all-append}
 use Rattle.lists.proofs.Slices.{length-entries}
-use Rattle.steps.proofs.Formed.{Kept, kept-of}
-use Rattle.encoded.specs.Words.{Binary32, Rows}
+use Rattle.steps.proofs.Formed.{kept-of}
+use Rattle.encoded.specs.Words.{Binary32}
 use Rattle.encoded.proofs.Same.{both, together, same-words, words-same, same-floats, floats-same}
-use Rattle.encoded.proofs.Rows.{length-ones, getD-ones, all-ones, length-part-of, all-part, all-getD}
+use Rattle.encoded.proofs.Rows.{length-ones, all-ones, length-part-of, all-part, all-getD}
 use Rattle.relay_kept.proofs.Lists.{binary-each, lists-formed, formed-lists}
 use Rattle.relay_kept.proofs.Tested.{binary-entries}
 use Rattle.descent_kept.specs.Formed.{Each, Few, Below, Fitting, Formed}

@@ -1,13 +1,12 @@
 -- The encoding of a relay has the lengths that row 6 asks for, and is read back as that relay. Assumes nothing.
 use mathlib.Core.Path.{_≡_, refl, sym, ap, _∙_}
 use mathlib.Core.List.{List, [], _∷_, _++_, map}
-use Prim.Native.Nat.{ℕ, zero, suc, _+_, _-_, _*_, _≤_, _<_, min}
+use Prim.Native.Nat.{ℕ, suc, _+_, _-_, _*_, _≤_, _<_, min}
 use native.Mathlib.Nat.{mul-suc, mul-comm}
 use native.Mathlib.Omega.{arith}
 use lib.ListN.{length, drop, getD, replicate, length-append, List·getD-append}
-use lib.Seq.{drop-at, drop-drop, getD-drop, getD-append-add}
+use lib.Seq.{drop-at, drop-drop, getD-drop}
 use lib.Ieee.{Float}
-use Rattle.rules.specs.declared.Neighbor.{Neighbor}
 use Rattle.rules.specs.Loops.{each, part}
 use Rattle.rules.specs.Distance.{zero32}
 use Rattle.rules.specs.Numbers.{most}

@@ -1,18 +1,17 @@
 -- Lists of entries in lent words and floats, with room to spare or exactly k each, are read back. Assumes nothing.
 use mathlib.Core.Path.{_≡_, refl, sym, ap, _∙_}
 use mathlib.Core.List.{List, [], _∷_, _++_, append-nil, map}
-use Prim.Native.Nat.{ℕ, zero, suc, _+_, _-_, _*_, _≤_, _<_}
+use Prim.Native.Nat.{ℕ, zero, suc, _-_, _*_, _≤_, _<_}
 use native.Mathlib.Nat.{le-of-suc-le-suc, not-suc-le-zero}
 use native.Mathlib.Omega.{arith}
-use lib.ListN.{length, take, drop, getD, replicate, length-map}
+use lib.ListN.{length, getD, replicate, length-map}
 use lib.Ieee.{Float}
 use Rattle.rules.specs.declared.Neighbor.{Neighbor}
-use Rattle.rules.specs.Loops.{each, part}
+use Rattle.rules.specs.Loops.{part}
 use Rattle.rules.specs.Distance.{zero32}
-use Rattle.rules.specs.Lists.{neighbor, entries, nodesOf, distancesOf, nodeOf}
+use Rattle.rules.specs.Lists.{entries, nodesOf, distancesOf, nodeOf}
 use Rattle.rules.specs.Places.{padded, listWords, listFloats, listsIn}
 use Rattle.rules.specs.RelayPlaces.{roomWords, roomFloats, lengthsOf}
-use Rattle.lists.specs.All.{All}
 use Rattle.lists.proofs.Plain.{all-at}
 use Rattle.lists.proofs.Slices.{entries-of}
 use Rattle.encoded.specs.Words.{joined, Rows, Short}

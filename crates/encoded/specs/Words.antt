@@ -6,7 +6,6 @@ use Prim.Native.Nat.{ℕ, _+_, _≤_}
 use lib.Dec.{T}
 use lib.ListN.{length}
 use lib.Ieee.{Float, binary32, fits}
-use Rattle.rules.specs.declared.Neighbor.{Neighbor}
 use Rattle.rules.specs.Relay.{Job, Relay, fresh, isPopped}
 use Rattle.lists.specs.All.{All}
 

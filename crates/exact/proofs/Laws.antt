@@ -1,53 +1,35 @@
 -- Laws of step 1 over plain lists: the distances of a node to others, the nodes offered, the list turned round. Assumes nothing.
-use mathlib.Core.Path.{_≡_, refl, sym, ap, _∙_}
+use mathlib.Core.Path.{_≡_, refl, sym, ap, subst, _∙_}
 use mathlib.Core.Bool.{Bool, true, false, cond}
 use mathlib.Core.List.{List, [], _∷_, _++_, map, reverse, append-nil, map-append}
-use Prim.Native.Nat.{ℕ, zero, suc, _+_, _-_, _≤_, _<_, zero-le, suc-le-suc, min}
+use Prim.Native.Nat.{ℕ, zero, suc, _+_, _-_, _*_, _≤_, _<_, zero-le, suc-le-suc, min}
 use native.Mathlib.Nat.{le-of-suc-le-suc, not-suc-le-zero}
 use native.Mathlib.Numerals.{add-one}
 use native.Mathlib.Omega.{arith}
-use lib.Dec.{eqb, ltb, leb}
+use lib.Dec.{T, eqb, ltb, leb}
 use lib.ListN.{length, take, drop, getD, length-append, length-map, length-reverse, List·getD-append, List·getD-map}
 use lib.Seq.{take-nil, getD-at, getD-take, take-at, drop-at, take-all, length-take-le}
-use lib.Ieee.{Float, nan}
-use borrow.Author.Tests.{ltb-true, ltb-false, eqb-true, eqb-false, eq-eqb, ne-eqb, leb-true, le-leb, lt-leb}
+use lib.Ieee.{Float, nan, binary32, lt, toBits, ofBits}
+use borrow.Author.Tests.{ltb-true, ltb-false, le-ltb, eqb-true, eqb-false, eq-eqb, ne-eqb, leb-true, le-leb, lt-leb}
 use Rattle.rules.specs.declared.Neighbor.{Neighbor}
 use Rattle.rules.specs.Loops.{through, each, over}
 use Rattle.rules.specs.Lists.{neighbor, nodeOf, nodesOf, entries, insert, place, insertAll, sort, least}
 use Rattle.rules.specs.Distance.{before, between}
+use Rattle.rules.specs.Rows.{emptyDistance}
 use Rattle.neighbor.specs.Holdable.{Holdable}
-use Rattle.neighbor.proofs.Bits.{holdable-between}
+use Rattle.neighbor.proofs.Bits.{holdable-empty, holdable-between, bits-lt}
+use Rattle.neighbor.proofs.Order.{asymmetric}
+use Rattle.kernels.proofs.Laws.{length-ones, getD-ones}
 use Rattle.rules.specs.Build.{Between, entry, others, exactList}
 use Rattle.lists.specs.All.{All}
 use Rattle.lists.specs.Lists.{PushedCut}
 use Rattle.lists.specs.Ascending.{AllHoldable, Ascending}
-use Rattle.lists.proofs.Laws.{take-insert, sort-append, length-least, place-le, place-behind, holdable-take, holdable-sort, ascending-take, ascending-sort}
+use Rattle.lists.proofs.Laws.{take-insert, sort-append, length-least, place-le, place-behind, holdable-at, holdable-take, holdable-sort, ascending-take, ascending-sort}
 use Rattle.lists.proofs.Slices.{length-entries, getD-entries, nodesOf-entries, pushed-none}
 use Rattle.lists.proofs.Plain.{drop-later, getD-reverse, all-append, all-take, all-reverse, all-map, all-weaker, all-sort, all-holdable, map-same}
-use Rattle.exact.specs.Exact.{distancesFrom, apartIn, HoldsRow, Other, Offered, Gathered, Exact}
+use Rattle.exact.specs.Exact.{distancesFrom, always, apartIn, HoldsRow, Other, farthest, PutEight, Eight, Offered, Considered, Gathered, Listed, Exact}
 
 -- ---- the distances of a node to all
-
-module _ {A : Type 0} (f : ℕ → A) where
-  length-ones : (n : ℕ) → length (each (λ (i : ℕ). f i ∷ []) n) ≡ n
-  unfolding each
-  length-ones zero = refl
-  length-ones (suc n) = let h = length-ones n in length-append (each (λ (i : ℕ). f i ∷ []) n) (f n ∷ []) ∙ omega arith
-
-  getD-ones : (n i : ℕ) (z : A) → i < n → getD (each (λ (j : ℕ). f j ∷ []) n) i z ≡ f i
-  unfolding each
-  getD-ones zero i z h = absurd (not-suc-le-zero h)
-  getD-ones (suc n) i z h = go (ltb i n) refl (getD-ones n i z)
-    where
-      go : (b : Bool) → ltb i n ≡ b → (i < n → getD (each (λ (j : ℕ). f j ∷ []) n) i z ≡ f i) → getD (each (λ (j : ℕ). f j ∷ []) n ++ (f n ∷ [])) i z ≡ f i
-      go true e ih =
-          let l = ltb-true i n e in
-          let m = length-ones n in
-          List·getD-append (each (λ (j : ℕ). f j ∷ []) n) (f n ∷ []) z i (omega arith) ∙ ih l
-      go false e ih =
-          let l = ltb-false i n e in
-          let one : n ≡ i = omega arith in
-          getD-at (each (λ (j : ℕ). f j ∷ []) n) (f n) [] z i (length-ones n ∙ one) ∙ ap f one
 
 pub length-distances : (d : Between) (n q : ℕ) → length (distancesFrom d n q) ≡ n
 unfolding distancesFrom
@@ -58,18 +40,20 @@ unfolding distancesFrom
 getD-distances d n q i z h = getD-ones (d q) n i z h
 
 -- written over a row, they are what is read from it
-read-distances : (d : Between) (n q i : ℕ) (row : List Float) → i < n → apartIn (over n (distancesFrom d n q) row) q i ≡ d q i
+read-distances : (d : Between) (n q i : ℕ) (row : List Float) → i < n → apartIn 1 0 (over n (distancesFrom d n q) row) q i ≡ d q i
 unfolding over
 read-distances d n q i row h =
     let m = length-distances d n q in
-    ap (λ (l : List Float). getD (l ++ drop n row) i nan) (take-all n (distancesFrom d n q) (omega arith))
+    let same : i * 1 + 0 ≡ i = omega arith in
+    ap (λ (j : ℕ). getD (over n (distancesFrom d n q) row) j nan) same
+    ∙ ap (λ (l : List Float). getD (l ++ drop n row) i nan) (take-all n (distancesFrom d n q) (omega arith))
     ∙ List·getD-append (distancesFrom d n q) (drop n row) nan i (omega arith)
     ∙ getD-distances d n q i nan h
 
-pub holds-distances : (lanes : List Float) (dimension n q : ℕ) (row row' : List Float) → row' ≡ over n (distancesFrom (between lanes dimension) n q) row → HoldsRow row' n
+pub holds-distances : (lanes : List Float) (dimension n q : ℕ) (row row' : List Float) → row' ≡ over n (distancesFrom (between lanes dimension) n q) row → HoldsRow 1 0 row' n
 holds-distances lanes dimension n q row row' e i h =
     let d = between lanes dimension in
-    rw (ap (λ (x : List Float). apartIn x q i) e ∙ read-distances d n q i row h) (holdable-between lanes dimension q i)
+    rw (ap (λ (x : List Float). apartIn 1 0 x q i) e ∙ read-distances d n q i row h) (holdable-between lanes dimension q i)
 
 -- ---- the distances of a node to some
 
@@ -189,6 +173,52 @@ offered-behind {d} {q} {i} {k} {ns} {ds} {len} l h g e b =
     let within = place-le (entry d q i) (entries len ns ds) in
     offered-other l e (pushed-none l h g (record { at = refl; within = omega arith }) (leb-true k (place (entry d q i) (entries len ns ds)) b))
 
+-- nothing is beyond the mark of an empty slot
+not-beyond : (x : Float) → Holdable x → lt emptyDistance x ≡ false
+unfolding ofBits toBits
+not-beyond x h = let low = h .low in bits-lt emptyDistance x holdable-empty h ∙ le-ltb (toBits binary32 emptyDistance) (toBits binary32 x) (omega arith)
+
+-- so does what is farther than the farthest
+module _ {ns : List ℕ} {ds : List Float} {len k : ℕ} where
+  pub offered-farther : (x : Float) {q i : ℕ} → 1 ≤ k → len ≤ k → k ≤ length ns → k ≤ length ds → Holdable x → AllHoldable (entries len ns ds) → Ascending (entries len ns ds)
+      → lt (farthest ds len k) x ≡ true → Offered (always x) q i k ns ds len ns ds len
+  unfolding farthest before
+  offered-farther x {q} {i} one l h g X A S b = self (eqb i q) refl
+    where
+      e : Neighbor
+      e = neighbor i x
+
+      last : Neighbor
+      last = neighbor (getD ns (len - 1) 0) (getD ds (len - 1) nan)
+
+      behind : (t : Bool) → ltb len k ≡ t → lt (cond t emptyDistance (getD ds (len - 1) nan)) x ≡ true → leb k (place e (entries len ns ds)) ≡ true
+      behind true f c = absurd (subst T (sym c ∙ not-beyond x X) tt)
+      behind false f c =
+          let full = ltb-false len k f in
+          let long = length-entries len ns ds (omega arith) (omega arith) in
+          let same = getD-entries len (len - 1) ns ds 0 nan e (omega arith) (omega arith) (omega arith) in
+          let held : Holdable (last .distance) = rw same at (holdable-at (entries len ns ds) (len - 1) e A (omega arith)) in
+          let first : before last e ≡ true = rw c in
+          sym (behind-last ns ds len k e one l (omega arith) (omega arith) 0 nan full X A S (asymmetric last e held X first))
+
+      self : (t : Bool) → eqb i q ≡ t → Offered (always x) q i k ns ds len ns ds len
+      self true f = offered-self l (eqb-true i q f)
+      self false f = offered-behind l h g (eqb-false i q f) (behind (ltb len k) refl b)
+
+-- a distance that is the same offers the same
+pub offered-same : {d e : Between} {q i k : ℕ} {ns : List ℕ} {ds : List Float} {len : ℕ} {ns' : List ℕ} {ds' : List Float} {r : ℕ} → d q i ≡ e q i
+    → Offered d q i k ns ds len ns' ds' r → Offered e q i k ns ds len ns' ds' r
+offered-same {d} {e} {q} {i} {k} {ns} {ds} {len} same made =
+    record {
+      list = made .list ∙ ap (λ (x : Float). cond (eqb i q) (entries len ns ds) (take k (insert (neighbor i x) (entries len ns ds)))) same;
+      more = made .more;
+      within = made .within;
+      nodes-rest = made .nodes-rest;
+      dists-rest = made .dists-rest;
+      nodes-long = made .nodes-long;
+      dists-long = made .dists-long;
+    }
+
 -- ---- the nodes below i offered: the least k of them are held
 
 pub least-more : (k : ℕ) (es : List Neighbor) (e : Neighbor) → least k (es ++ (e ∷ [])) ≡ take k (insert e (least k es))
@@ -222,27 +252,28 @@ gathered-turn {d} {k} {q} {i} {ns₀} {ds₀} {ns} {ds} {len} {ns'} {ds'} {r} in
     }
 
 -- what is held can be held, and ascends
-pub gathered-ascends : (row : List Float) {n k q i : ℕ} {ns₀ : List ℕ} {ds₀ : List Float} {ns : List ℕ} {ds : List Float} {len : ℕ} → HoldsRow row n → i ≤ n
-    → Gathered (apartIn row) i k q ns₀ ds₀ ns ds len → AllHoldable (entries len ns ds) × Ascending (entries len ns ds)
+pub gathered-ascends : (d : Between) {n k q i : ℕ} {ns₀ : List ℕ} {ds₀ : List Float} {ns : List ℕ} {ds : List Float} {len : ℕ} → ((j : ℕ) → j < n → Holdable (d q j)) → i ≤ n
+    → Gathered d i k q ns₀ ds₀ ns ds len → AllHoldable (entries len ns ds) × Ascending (entries len ns ds)
 unfolding least
-gathered-ascends row {n} {k} {q} {i} holds l inv =
-    let es = map (entry (apartIn row) q) (others q i) in
+gathered-ascends d {n} {k} {q} {i} holds l inv =
+    let es = map (entry d q) (others q i) in
     let Q : Neighbor → Type 0 = λ (e : Neighbor). Holdable (e .distance) in
     let held = all-holdable es
-    (all-map Q (entry (apartIn row) q) (others q i)
-    (all-weaker (Other i q) (λ (j : ℕ). Holdable (getD row j nan)) (λ (j : ℕ) (h : Other i q j). holds j (let m = h .0 in omega arith)) (others q i) (others-each q i))) in
+    (all-map Q (entry d q) (others q i)
+    (all-weaker (Other i q) (λ (j : ℕ). Holdable (d q j)) (λ (j : ℕ) (h : Other i q j). holds j (let m = h .0 in omega arith)) (others q i) (others-each q i))) in
     rw (inv .list) (holdable-take k (sort es) (holdable-sort es held), ascending-take k (sort es) (ascending-sort es held))
 
 -- distances that are the same of the others gather the same
+entries-same : (d e : Between) (n q : ℕ) → ((i : ℕ) → i < n → d q i ≡ e q i) → map (entry d q) (others q n) ≡ map (entry e q) (others q n)
+entries-same d e n q same =
+    map-same (entry d q) (entry e q) (others q n)
+    (all-weaker (Other n q) (λ (i : ℕ). entry d q i ≡ entry e q i) (λ (i : ℕ) (h : Other n q i). ap (neighbor i) (same i (h .0))) (others q n) (others-each q n))
+
 gathered-same : {d e : Between} {n k q : ℕ} {ns : List ℕ} {ds : List Float} {ns' : List ℕ} {ds' : List Float} {r : ℕ}
     → ((i : ℕ) → i < n → d q i ≡ e q i) → Gathered d n k q ns ds ns' ds' r → Gathered e n k q ns ds ns' ds' r
 gathered-same {d} {e} {n} {k} {q} same made =
     record {
-      list =
-          made .list
-          ∙ ap (least k)
-          (map-same (entry d q) (entry e q) (others q n)
-          (all-weaker (Other n q) (λ (i : ℕ). entry d q i ≡ entry e q i) (λ (i : ℕ) (h : Other n q i). ap (neighbor i) (same i (h .0))) (others q n) (others-each q n)));
+      list = made .list ∙ ap (least k) (entries-same d e n q same);
       within = made .within;
       nodes-rest = made .nodes-rest;
       dists-rest = made .dists-rest;
@@ -271,6 +302,11 @@ length-exact d n k q h =
     length-reverse (map nodeOf (least k (map (entry d q) (others q n))))
     ∙ length-map (least k (map (entry d q) (others q n))) nodeOf ∙ length-found d n k q h
 
+-- distances that are the same of the others give the same list
+pub exact-same : (d e : Between) (n k q : ℕ) → ((i : ℕ) → i < n → d q i ≡ e q i) → exactList d n k q ≡ exactList e n k q
+unfolding exactList
+exact-same d e n k q same = ap (λ (es : List Neighbor). reverse (nodesOf (least k es))) (entries-same d e n q same)
+
 -- what is read from the end of a list
 pub getD-turned : {A : Type 0} (xs : List A) (len i : ℕ) (z : A) → len ≤ length xs → i < len → getD (reverse (take len xs)) i z ≡ getD xs (len - 1 - i) z
 getD-turned xs len i z h l =
@@ -280,15 +316,14 @@ getD-turned xs len i z h l =
 pub length-turned : {A : Type 0} (xs : List A) (len : ℕ) → len ≤ length xs → length (reverse (take len xs)) ≡ len
 length-turned xs len h = length-reverse (take len xs) ∙ length-take-le len xs h
 
-module _ {d : Between} {n k q : ℕ} {row : List Float} {ns : List ℕ} {ds : List Float} {out : List ℕ} {row' : List Float} {ns' : List ℕ} {ds' : List Float} {out' : List ℕ} {r : ℕ} (below : q < n) (h : k ≤ length ns) (g : k ≤ length ds) where
-  pub exact : row' ≡ over n (distancesFrom d n q) row → length row' ≡ length row → Gathered (apartIn row') n k q ns ds ns' ds' r
-      → out' ≡ over r (reverse (take r ns')) out → length out' ≡ length out → Exact d n k q row ns ds out row' ns' ds' out' r
+module _ {d : Between} {n k q : ℕ} {ns : List ℕ} {ds : List Float} {out : List ℕ} {ns' : List ℕ} {ds' : List Float} {out' : List ℕ} {r : ℕ} where
+  pub listed : q < n → k ≤ length ns → k ≤ length ds → Gathered d n k q ns ds ns' ds' r → out' ≡ over r (reverse (take r ns')) out → length out' ≡ length out
+      → Listed d n k q ns ds out ns' ds' out' r
   unfolding over exactList
-  exact e row-long made f out-long =
-      let within = made .within in
-      let u = made .nodes-long in
-      let v = made .dists-long in
-      let work : Gathered d n k q ns ds ns' ds' r = gathered-same (λ (i : ℕ) (l : i < n). ap (λ (x : List Float). apartIn x q i) e ∙ read-distances d n q i row l) made in
+  listed below h g work f out-long =
+      let within = work .within in
+      let u = work .nodes-long in
+      let v = work .dists-long in
       let long = length-entries r ns' ds' (omega arith) (omega arith) in
       let fewest : r ≡ min k (n - 1) = sym long ∙ ap length (work .list) ∙ length-found d n k q below in
       let turned = length-turned ns' r (omega arith) in
@@ -301,7 +336,37 @@ module _ {d : Between} {n k q : ℕ} {row : List Float} {ns : List ℕ} {ds : Li
         fewest = fewest;
         out-rest = ap (drop r) f ∙ drop-at (take r (reverse (take r ns'))) (drop r out) r (ap length front ∙ turned);
         out-long = out-long;
-        distances = e;
-        row-long = row-long;
         work = work;
       }
+
+  pub listed-same : {e : Between} → ((i : ℕ) → i < n → d q i ≡ e q i) → Listed d n k q ns ds out ns' ds' out' r → Listed e n k q ns ds out ns' ds' out' r
+  listed-same {e} same made =
+      let lists = exact-same d e n k q same in
+      record {
+        list = made .list ∙ lists;
+        count = made .count ∙ ap length lists;
+        fewest = made .fewest;
+        out-rest = made .out-rest;
+        out-long = made .out-long;
+        work = gathered-same same (made .work);
+      }
+
+pub exact : {d : Between} {n k q : ℕ} {row : List Float} {ns : List ℕ} {ds : List Float} {out : List ℕ} {row' : List Float} {ns' : List ℕ} {ds' : List Float} {out' : List ℕ} {r : ℕ}
+    → row' ≡ over n (distancesFrom d n q) row → length row' ≡ length row → Listed (apartIn 1 0 row') n k q ns ds out ns' ds' out' r → Exact d n k q row ns ds out row' ns' ds' out' r
+exact {d} {n} {k} {q} {row} e row-long found =
+    let made = listed-same {e = d} (λ (i : ℕ) (l : i < n). ap (λ (x : List Float). apartIn 1 0 x q i) e ∙ read-distances d n q i row l) found in
+    record {
+      list = made .list;
+      count = made .count;
+      fewest = made .fewest;
+      out-rest = made .out-rest;
+      out-long = made .out-long;
+      distances = e;
+      row-long = row-long;
+      work = made .work;
+    }
+
+pub exact-listed : {d : Between} {n k q : ℕ} {row : List Float} {ns : List ℕ} {ds : List Float} {out : List ℕ} {row' : List Float} {ns' : List ℕ} {ds' : List Float} {out' : List ℕ} {r : ℕ}
+    → Exact d n k q row ns ds out row' ns' ds' out' r → Listed d n k q ns ds out ns' ds' out' r
+exact-listed made =
+    record { list = made .list; count = made .count; fewest = made .fewest; out-rest = made .out-rest; out-long = made .out-long; work = made .work }

@@ -1,26 +1,30 @@
 -- The state that the calls leave is the encoding of the relay that the moves leave. Assumes nothing.
-use mathlib.Core.Path.{_≡_, refl, sym, ap, _∙_, subst}
+use mathlib.Core.Path.{_≡_, refl, ap, _∙_, subst}
 use mathlib.Core.Bool.{Bool, true, false, cond}
 use mathlib.Core.List.{List, [], _∷_}
-use Prim.Native.Nat.{ℕ, _≤_, _<_}
+use Prim.Native.Nat.{ℕ, _≤_}
 use native.Mathlib.Omega.{arith}
-use lib.Ieee.{Float}
 use Rattle.rules.specs.Loops.{through}
 use Rattle.rules.specs.Refusals.{Code, noRefusal, Row, Decision, passed, refused, decide, row1, row2, row3, row4, row6, row9, row10ofJobs, row12}
 use Rattle.rules.specs.Calls.{openRows}
 use Rattle.rules.specs.Relay.{Relay, moved}
 use Rattle.rules.specs.RelayPlaces.{relayState, relayStateFloats}
-use Rattle.rules.specs.RelayCall.{OpenLent, openTable, openedOn, openObeys, openRule, MoveOutcome, moveRule}
+use Rattle.rules.specs.RelayCall.{OpenLent, openTable, openedOn, openObeys, openRule, MoveOutcome}
 use Rattle.lists.specs.All.{All}
+use Rattle.encoded.specs.Words.{Binary32}
 use Rattle.relay_kept.specs.Formed.{Formed}
-use Rattle.relay_kept.specs.Calls.{Sizes, moving}
+use Rattle.relay_kept.specs.Calls.{Sizes}
 use Rattle.relay_kept.proofs.Calls.{move-leaves, move-refused}
 use Rattle.relay_kept.proofs.Opening.{open-formed, passed-open}
 use Rattle.orders.specs.Runs.{idle, movedIf, ran}
-use Rattle.orders.specs.Demand3.{Opens, State, atOpening, moveOf, afterMove, after}
+use Rattle.orders.specs.Demand3.{State, atOpening, moveOf, afterMove, after}
 use Rattle.orders.proofs.Runs.{idle-false, if-formed}
 
 -- ---- open answers exactly when its rows pass
+
+pub record Opens (l : OpenLent) : Type 0 where
+  pub answers : openRule l .said ≡ noRefusal
+  pub floats : Binary32 (l .distances)
 
 numbered : (rs : List Row) (c : Code) → All (λ (r : Row). 1 ≤ r .gives .number) rs → decide rs ≡ refused c → 1 ≤ c .number
 unfolding decide

@@ -1,22 +1,20 @@
 -- The jobs after any moves: each at as many steps as it was named, up to eight, and otherwise as opened. Assumes nothing.
 use mathlib.Core.Path.{_≡_, refl, sym, ap, _∙_, subst}
-use mathlib.Core.Bool.{Bool, true, false, cond, true≢false}
+use mathlib.Core.Bool.{Bool, true, false}
 use mathlib.Core.List.{List, [], _∷_, _++_}
 use Prim.Native.Nat.{ℕ, zero, suc, _+_, _≤_, _<_, min}
 use native.Mathlib.Nat.{not-suc-le-zero}
 use native.Mathlib.Omega.{arith}
 use lib.Dec.{eqb, ltb}
 use lib.ListN.{length, replicate}
-use lib.Ieee.{Float}
 use borrow.Author.Tests.{eqb-true, eqb-false, eq-eqb, ltb-true, ltb-false}
 use Rattle.rules.specs.Loops.{each}
-use Rattle.rules.specs.Distance.{zero32, between}
-use Rattle.rules.specs.Refusals.{jobCount}
-use Rattle.rules.specs.Relay.{fresh, stepsOf, Job, Relay, isFinished, noJob, jobAt, jobOf, opened, moved}
+use Rattle.rules.specs.Distance.{between}
+use Rattle.rules.specs.Relay.{stepsOf, Job, Relay, isFinished, noJob, jobAt, jobOf, opened, moved}
 use Rattle.rules.specs.RelayCall.{OpenLent, openedOn}
 use Rattle.encoded.proofs.Rows.{length-ones, getD-ones}
 use Rattle.relay_kept.specs.Halves.{halfAt, jobAfter}
-use Rattle.orders.specs.Runs.{idle, ran, count, stepsDone}
+use Rattle.orders.specs.Runs.{ran, count, stepsDone}
 use Rattle.orders.specs.Demand3.{pairs, Finishes, inTurn}
 use Rattle.orders.proofs.Runs.{finished-steps, steps-finished, ran-keeps, ran-length, ran-steps, moved-same, moved-other}
 

@@ -1,28 +1,21 @@
 -- Demand 3 holds of every opening (`specs/Demand3.antt` states it). Assumes nothing.
 use mathlib.Core.Path.{_≡_, refl, sym, ap, _∙_, subst}
-use mathlib.Core.Bool.{Bool, true, false, not, _&&_, _||_, cond, true≢false}
-use mathlib.Core.List.{List, [], _∷_, _++_}
+use mathlib.Core.Bool.{Bool, true, false, _||_, cond, true≢false}
+use mathlib.Core.List.{List, [], _++_}
 use Prim.Native.Nat.{ℕ, _+_, _*_, _≤_, _<_}
 use native.Mathlib.Omega.{arith}
-use lib.Dec.{eqb, leb, ltb}
-use lib.ListN.{length, take, drop, getD, List·getD-append, length-append}
+use lib.Dec.{eqb, leb}
+use lib.ListN.{length, drop, getD, List·getD-append, length-append}
 use lib.Seq.{take-all, ext-getD}
-use lib.Ieee.{Float}
-use borrow.Author.Tests.{ltb-false}
 use Rattle.rules.specs.declared.Neighbor.{Neighbor}
-use Rattle.rules.specs.declared.Distance.the-variants.{Fit}
-use Rattle.rules.specs.Loops.{over, firstFrom}
-use Rattle.rules.specs.Distance.{zero32, unfit, nodesApart, between, carried}
+use Rattle.rules.specs.Loops.{over}
+use Rattle.rules.specs.Distance.{zero32}
 use Rattle.rules.specs.Lists.{neighbor, least}
-use Rattle.rules.specs.Refusals.{noRefusal, code, row10ofJobs, unfitJob, firstUnfitJob}
-use Rattle.rules.specs.Calls.{openRows}
+use Rattle.rules.specs.Refusals.{noRefusal, code}
 use Rattle.rules.specs.Descent.{listAt}
-use Rattle.rules.specs.Relay.{fresh, takenOf, Job, Relay, equalNodes, forU, forV, isFinished, noJob, jobAt, jobOf, bit, reportsOf}
+use Rattle.rules.specs.Relay.{takenOf, Job, Relay, equalNodes, isFinished, noJob, jobAt, jobOf, bit, reportsOf}
 use Rattle.rules.specs.Places.{listWords, listFloats, listsIn}
-use Rattle.rules.specs.RelayPlaces.{relayState, relayStateFloats}
-use Rattle.rules.specs.RelayCall.{OpenLent, openTable, openedOn, MoveOutcome, moveRule, CloseOutcome, closeRule}
-use Rattle.rules.proofs.Loops.{first-before}
-use Rattle.metrics.proofs.Fitness.{is-carried}
+use Rattle.rules.specs.RelayCall.{OpenLent, openedOn, MoveOutcome, CloseOutcome, closeRule}
 use Rattle.lists.specs.Ascending.{AllHoldable}
 use Rattle.lists.specs.All.{All}
 use Rattle.lists.proofs.Laws.{holdable-append}
@@ -31,18 +24,17 @@ use Rattle.encoded.specs.Words.{Rows}
 use Rattle.encoded.proofs.Lists.{lists-whole}
 use Rattle.relay_kept.specs.Formed.{Formed}
 use Rattle.relay_kept.specs.Halves.{target, entryOf, stageOf}
-use Rattle.relay_kept.proofs.Rows.{all-fail}
 use Rattle.relay_kept.proofs.Calls.{move-leaves, move-refused, close-gives}
 use Rattle.relay_kept.proofs.Opening.{passed-open}
-use Rattle.orders.specs.Runs.{idle, ran, count}
+use Rattle.orders.specs.Runs.{ran, count}
 use Rattle.orders.specs.Least.{IsLeast}
-use Rattle.orders.specs.Demand3.{Opens, pairs, u, v, apart, held, offered, State, moveOf, after, Finishes, Room, closed, listed, StandsIn, Finished, Demand3}
-use Rattle.orders.proofs.Kept.{goalOf}
+use Rattle.orders.specs.Demand3.{Asked, pairs, u, v, apart, held, offered, State, moveOf, after, Finishes, Room, closed, listed, StandsIn, Finished, Demand3}
 use Rattle.orders.proofs.Waiting.{held-left}
-use Rattle.orders.proofs.Runs.{Aims, ran-formed, none-unfinished, busy}
+use Rattle.orders.proofs.Runs.{ran-formed, none-unfinished}
 use Rattle.orders.proofs.Least.{least-is}
 use Rattle.orders.proofs.Reports.{Told, refusedAt, ran-told, taken-up, report-first, report-second, length-reports}
-use Rattle.orders.proofs.Called.{opens-passed, sizes, opening-formed, stateOf, after-is}
+use Rattle.orders.proofs.Asked.{asked-opens}
+use Rattle.orders.proofs.Called.{Opens, opens-passed, sizes, opening-formed, stateOf, after-is}
 use Rattle.orders.proofs.Ends.{left-opened, goal-opened, end-long, end-list}
 use Rattle.orders.proofs.Counts.{in-turn, opened-length, opened-job, run-length, is-finished, is-unfinished, Alike, run-alike}
 
@@ -71,17 +63,6 @@ module _ (l : OpenLent) (O : Opens l) where
       idle-half : (b : Bool) (i : ℕ) → i < pairs l → refusedAt (stageOf b (jobAt (openedOn l) i)) ≡ false
       idle-half false i h = ap (λ (j : Job). refusedAt (j .first)) (opened-job l i h)
       idle-half true i h = ap (λ (j : Job). refusedAt (j .second)) (opened-job l i h)
-
-  -- row 10
-  all-fit : (i : ℕ) → i < pairs l → eqb (u l i) (v l i) ≡ false → nodesApart (l .lanes) (l .dimension) (u l i) (v l i) ≡ Fit (apart l i)
-  unfolding openTable openRows row10ofJobs firstUnfitJob unfitJob between
-  all-fit i h q =
-      let F = all-fail (openTable l) (opens-passed l O) in
-      let p = unfitJob (nodesApart (l .lanes) (l .dimension)) (l .jobs) in
-      let m = ltb-false (firstFrom p 0 (pairs l)) (pairs l) (F .1 .1 .1 .1 .1 .1 .0) in
-      let f : p i ≡ false = first-before p 0 (pairs l) i (omega arith) (omega arith) in
-      let g : unfit (nodesApart (l .lanes) (l .dimension) (u l i) (v l i)) ≡ false = rw q at f in
-      is-carried (nodesApart (l .lanes) (l .dimension) (u l i) (v l i)) g
 
   -- ---- after any moves
 
@@ -246,13 +227,10 @@ module _ (l : OpenLent) (O : Opens l) where
       let wn : w < l .n = omega arith in
       list-is order D w wn ∙ sym (list-is other E w wn))
 
-  pub demand3 : Demand3 l
-  demand3 =
-      let P = passed-open l (O .floats) (opens-passed l O) .openable in
+  demands : Demand3 l
+  demands =
       record {
-        some = P .some;
-        few = P .few;
-        fit = all-fit;
+        opens = O .answers;
         succeeds = move-succeeds;
         is-over = move-over;
         exists = in-turn l;
@@ -262,3 +240,6 @@ module _ (l : OpenLent) (O : Opens l) where
         same-distances = λ (order other : List ℕ) (D : Finishes l order) (E : Finishes l other) (c : Room l).
             ap (λ (o : CloseOutcome). o .distances) (closed-is order D c) ∙ ap listFloats (same-lists order other D E) ∙ sym (ap (λ (o : CloseOutcome). o .distances) (closed-is other E c));
       }
+
+pub demand3 : (l : OpenLent) → Asked l → Demand3 l
+demand3 l A = demands l (asked-opens l A)

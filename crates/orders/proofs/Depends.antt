@@ -3,7 +3,7 @@ use mathlib.Core.Path.{_≡_, refl}
 use mathlib.Core.List.{List, [], _∷_, _++_}
 use Prim.Native.Nat.{ℕ}
 use lib.ListN.{replicate}
-use lib.Ieee.{binary32, ofBits, toBits, add, sub, mul, lt, eq}
+use lib.Ieee.{ofBits, toBits, add, sub, mul, lt, eq}
 use Rattle.rules.specs.Loops.{each, through, part}
 use Rattle.rules.specs.Distance.{lane, totalOf, fit, answer, distanceOf, carried, lanesOf, nodesApart, between, before}
 use Rattle.rules.specs.Lists.{insert}

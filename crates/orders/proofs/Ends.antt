@@ -1,20 +1,19 @@
 -- What lists wait for at opening is what is offered to them, and in the end they wait for nothing. Assumes nothing.
-use mathlib.Core.Path.{_≡_, refl, sym, ap, _∙_, subst}
-use mathlib.Core.Bool.{Bool, true, false, not, _&&_, cond, true≢false}
+use mathlib.Core.Path.{_≡_, refl, sym, ap, _∙_}
+use mathlib.Core.Bool.{Bool, true, false, not, cond, true≢false}
 use mathlib.Core.List.{List, [], _∷_, _++_, append-assoc, append-nil}
-use Prim.Native.Nat.{ℕ, zero, suc, _+_, _≤_, _<_}
+use Prim.Native.Nat.{ℕ, zero, suc, _<_}
 use native.Mathlib.Omega.{arith}
 use lib.Dec.{eqb}
-use lib.ListN.{length, take, getD}
+use lib.ListN.{length, take}
 use lib.Seq.{take-all}
 use Rattle.rules.specs.declared.Neighbor.{Neighbor}
 use Rattle.rules.specs.Loops.{each, through}
 use Rattle.rules.specs.Distance.{zero32, between}
-use Rattle.rules.specs.Lists.{neighbor, insertAll, least, sort}
-use Rattle.rules.specs.Refusals.{jobCount}
+use Rattle.rules.specs.Lists.{neighbor, insertAll, least}
 use Rattle.rules.specs.Descent.{listAt}
 use Rattle.rules.specs.Relay.{Stage, fresh, looked, pushed, measured, popped, isPopped, Job, Relay, isFinished, equalNodes, forU, forV, jobOf, opened}
-use Rattle.rules.specs.RelayPlaces.{pending, pendingAt}
+use Rattle.rules.specs.RelayPlaces.{pendingAt}
 use Rattle.rules.specs.RelayCall.{OpenLent, openedOn}
 use Rattle.lists.specs.All.{All}
 use Rattle.lists.proofs.Laws.{insertAll-ascending}

@@ -1,18 +1,17 @@
 -- A move keeps, of every list, the first k of what it holds and waits for. Assumes nothing.
 use mathlib.Core.Path.{_≡_, refl, sym, ap, _∙_, subst}
 use mathlib.Core.Bool.{Bool, true, false, cond}
-use mathlib.Core.List.{List, [], _∷_, _++_}
+use mathlib.Core.List.{List, []}
 use Prim.Native.Nat.{ℕ, _<_}
 use lib.Dec.{eqb}
-use lib.ListN.{length, take, getD, set}
-use borrow.Author.Tests.{eqb-true, eqb-false, eq-eqb}
+use lib.ListN.{length, take}
+use borrow.Author.Tests.{eqb-true, eq-eqb}
 use Rattle.rules.specs.declared.Neighbor.{Neighbor}
 use Rattle.rules.specs.Lists.{insertAll}
 use Rattle.rules.specs.Descent.{listAt}
-use Rattle.rules.specs.Relay.{Stage, isPopped, Job, Relay, nextStage, nextList, equalNodes, jobAt, moved}
-use Rattle.neighbor.specs.Holdable.{Holdable}
+use Rattle.rules.specs.Relay.{Stage, isPopped, Job, Relay, nextStage, equalNodes, jobAt, moved}
 use Rattle.lists.proofs.Laws.{same-insertAll}
-use Rattle.relay_kept.specs.Formed.{ListFormed, JobFormed, Formed}
+use Rattle.relay_kept.specs.Formed.{Formed}
 use Rattle.relay_kept.specs.Halves.{target, entryOf, stageOf, halfAt, found, relayAfter}
 use Rattle.relay_kept.proofs.Jobs.{parts, stage-parts}
 use Rattle.relay_kept.proofs.Kept.{moved-is, offer-held, job-formed, target-below, room-before, list-after, other-after, after-formed}

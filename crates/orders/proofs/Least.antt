@@ -1,8 +1,8 @@
 -- The least k of the rulebook are the least k, and nothing else is. Assumes nothing.
 use mathlib.Core.Path.{_≡_, refl, sym, ap, _∙_, subst}
-use mathlib.Core.Bool.{Bool, true, false}
+use mathlib.Core.Bool.{false}
 use mathlib.Core.List.{List, [], _∷_, _++_}
-use Prim.Native.Nat.{ℕ, _≤_, min}
+use Prim.Native.Nat.{ℕ, _≤_}
 use native.Mathlib.Omega.{arith}
 use lib.ListN.{length, take, drop, take-append-drop}
 use lib.Seq.{take-all}
@@ -12,7 +12,7 @@ use Rattle.rules.specs.Distance.{before}
 use Rattle.rules.specs.Lists.{insert, place, insertAll, sort, least}
 use Rattle.lists.specs.Ascending.{AllHoldable, NoneBefore, Ascending, Perm}
 use Rattle.lists.specs.All.{All}
-use Rattle.lists.proofs.Laws.{place-later, take-before, same-insertAll, length-least, sort-perm, sort-is-perm, sort-append, sort-ascending, holdable-sort, holdable-perm, ascending-sort, ascending-take}
+use Rattle.lists.proofs.Laws.{place-later, take-before, same-insertAll, length-least, sort-perm, sort-is-perm, sort-append, sort-ascending, holdable-perm, ascending-sort, ascending-take}
 use Rattle.orders.specs.Least.{nearer, NoneNearer, Ordered, IsLeast}
 
 -- the order is the rulebook's

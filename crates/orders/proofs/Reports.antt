@@ -1,5 +1,5 @@
 -- A refused offer is farther than all that its list will hold, so an offer that ends in its list was reported taken up. Assumes nothing.
-use mathlib.Core.Path.{_≡_, refl, sym, ap, _∙_, subst}
+use mathlib.Core.Path.{_≡_, refl, sym, _∙_, subst}
 use mathlib.Core.Logic.{_⊎_, inl, inr}
 use mathlib.Core.Bool.{Bool, true, false, not, _&&_, _||_, cond, true≢false}
 use mathlib.Core.List.{List, [], _∷_}
@@ -15,7 +15,6 @@ use Rattle.rules.specs.Loops.{through}
 use Rattle.rules.specs.Distance.{before, zero32}
 use Rattle.rules.specs.Lists.{neighbor, nodeOf, insert, insertAll}
 use Rattle.rules.specs.Search.{farthest}
-use Rattle.rules.specs.Descent.{listAt}
 use Rattle.rules.specs.Offers.{look}
 use Rattle.rules.specs.Relay.{Stage, fresh, looked, pushed, measured, popped, isPopped, takenOf, Job, Relay, nextStage, equalNodes, isFinished, noJob, jobAt, moved, bit, reportsOf}
 use Rattle.neighbor.specs.Holdable.{Holdable}
@@ -23,15 +22,15 @@ use Rattle.neighbor.proofs.Bits.{bits-lt, bits-eq}
 use Rattle.neighbor.proofs.Order.{total}
 use Rattle.lists.specs.Ascending.{AllHoldable, Ascending}
 use Rattle.lists.specs.All.{All}
-use Rattle.lists.proofs.Laws.{holdable-insert, holdable-at, length-insert}
+use Rattle.lists.proofs.Laws.{holdable-insert, length-insert}
 use Rattle.lists.proofs.Plain.{all-at, all-take}
 use Rattle.encoded.proofs.Same.{both}
 use Rattle.relay_kept.specs.Formed.{Formed}
-use Rattle.relay_kept.specs.Halves.{target, entryOf, stageOf, withStage, halfAt, found, jobAfter}
+use Rattle.relay_kept.specs.Halves.{target, entryOf, stageOf, halfAt, found, jobAfter}
 use Rattle.relay_kept.proofs.Kept.{moved-formed, job-formed, target-below, room-before, offer-held}
 use Rattle.orders.specs.Steps.{lookTakes, left}
 use Rattle.orders.specs.Runs.{ran}
-use Rattle.orders.proofs.Kept.{goalOf, moved-keeps}
+use Rattle.orders.proofs.Kept.{moved-keeps}
 use Rattle.orders.proofs.Waiting.{held-left}
 use Rattle.orders.proofs.Runs.{Aims, ran-keeps, moved-length, moved-same, moved-other}
 

@@ -2,18 +2,18 @@
 use mathlib.Core.Path.{_≡_, refl, sym, ap, _∙_, subst}
 use mathlib.Core.Bool.{Bool, true, false, not, _&&_, _||_, cond, true≢false}
 use mathlib.Core.List.{List, [], _∷_}
-use Prim.Native.Nat.{ℕ, zero, suc, _+_, _≤_, _<_, min}
+use Prim.Native.Nat.{ℕ, suc, _+_, _≤_, _<_, min}
 use native.Mathlib.Omega.{arith}
-use lib.Dec.{eqb, leb, ltb}
-use lib.ListN.{length, getD, set, length-set}
+use lib.Dec.{eqb, leb}
+use lib.ListN.{length, length-set}
 use lib.Seq.{getD-set-same, getD-set-other}
-use borrow.Author.Tests.{eqb-true, eqb-false, leb-true, leb-false, lt-leb, not-true, not-false}
+use borrow.Author.Tests.{eqb-true, eqb-false, leb-true, leb-false, lt-leb}
 use Rattle.rules.specs.declared.Neighbor.{Neighbor}
 use Rattle.rules.specs.Loops.{through, firstFrom}
 use Rattle.rules.specs.Relay.{Stage, fresh, looked, pushed, measured, popped, stepsOf, isPopped, Job, Relay, nextStage, equalNodes, isFinished, noJob, jobAt, moved, lowestUnfinished}
 use Rattle.rules.proofs.Loops.{first-holds}
 use Rattle.relay_kept.specs.Formed.{Formed}
-use Rattle.relay_kept.specs.Halves.{entryOf, stageOf, withStage, halfAt, found, relayAfter, jobAfter}
+use Rattle.relay_kept.specs.Halves.{entryOf, halfAt, found, jobAfter}
 use Rattle.relay_kept.proofs.Kept.{moved-is, moved-formed}
 use Rattle.orders.specs.Runs.{idle, movedIf, ran, count, stepsDone}
 use Rattle.orders.proofs.Kept.{goalOf, moved-keeps}
@@ -194,17 +194,17 @@ module _ (k : ℕ) where
 
 -- ---- at the end
 
+-- a search for what is nowhere
+pub none-first : (p : ℕ → Bool) (m : ℕ) → ((i : ℕ) → i < m → p i ≡ false) → m ≤ firstFrom p 0 m
+none-first p m f = go (leb m (firstFrom p 0 m)) refl
+  where
+    go : (b : Bool) → leb m (firstFrom p 0 m) ≡ b → m ≤ firstFrom p 0 m
+    go true e = leb-true m (firstFrom p 0 m) e
+    go false e =
+        let l = leb-false m (firstFrom p 0 m) e in
+        absurd (true≢false (sym (first-holds p 0 m (omega arith)) ∙ f (firstFrom p 0 m) l))
+
 pub none-unfinished : (r : Relay) → ((x : ℕ) → x < length (r .jobs) → isFinished (jobAt r x) ≡ true) → length (r .jobs) ≤ lowestUnfinished r
 unfolding lowestUnfinished
-none-unfinished r f = go (leb (length (r .jobs)) (lowestUnfinished r)) refl
-  where
-    p : ℕ → Bool
-    p i = not (isFinished (jobAt r i))
-
-    go : (b : Bool) → leb (length (r .jobs)) (firstFrom p 0 (length (r .jobs))) ≡ b → length (r .jobs) ≤ firstFrom p 0 (length (r .jobs))
-    go true e = leb-true (length (r .jobs)) (firstFrom p 0 (length (r .jobs))) e
-    go false e =
-        let l = leb-false (length (r .jobs)) (firstFrom p 0 (length (r .jobs))) e in
-        let t = first-holds p 0 (length (r .jobs)) (omega arith) in
-        let u = f (firstFrom p 0 (length (r .jobs))) l in
-        absurd (true≢false (sym u ∙ not-true (isFinished (jobAt r (firstFrom p 0 (length (r .jobs))))) t))
+none-unfinished r f =
+    none-first (λ (i : ℕ). not (isFinished (jobAt r i))) (length (r .jobs)) (λ (i : ℕ) (h : i < length (r .jobs)). ap not (f i h))

@@ -1,22 +1,20 @@
 -- One step of one offer keeps the first k of what its list holds and waits for. Assumes nothing.
 use mathlib.Core.Path.{_≡_, refl, sym, ap, _∙_}
-use mathlib.Core.Bool.{Bool, true, false, not, _&&_, _||_, cond, true≢false}
+use mathlib.Core.Bool.{Bool, true, false, not, _&&_, cond, true≢false}
 use mathlib.Core.List.{List, [], _∷_, _++_, append-nil}
-use Prim.Native.Nat.{ℕ, zero, suc, _+_, _-_, _≤_, _<_, zero-le, suc-le-suc}
-use native.Mathlib.Nat.{not-suc-le-zero}
+use Prim.Native.Nat.{ℕ, suc, _+_, _-_, _≤_, _<_, zero-le}
 use native.Mathlib.Omega.{arith}
-use lib.Dec.{eqb, ltb}
 use lib.ListN.{length, take, drop, getD, drop-of-length-le}
 use lib.Seq.{take-take, length-take-le, take-append-le}
-use lib.Ieee.{Float, lt, eq, binary32, toBits}
-use borrow.Author.Tests.{not-false, ltb-true, lt-ltb, eqb-true}
+use lib.Ieee.{lt}
+use borrow.Author.Tests.{not-false}
 use Rattle.rules.specs.declared.Neighbor.{Neighbor}
 use Rattle.rules.specs.Loops.{through}
 use Rattle.rules.specs.Distance.{before, zero32}
 use Rattle.rules.specs.Lists.{neighbor, insert, insertAll, place}
 use Rattle.rules.specs.Search.{farthest}
 use Rattle.rules.specs.Offers.{look, pop}
-use Rattle.rules.specs.Relay.{Stage, fresh, looked, pushed, measured, popped, nextStage, nextList, bit}
+use Rattle.rules.specs.Relay.{Stage, fresh, looked, pushed, measured, popped, nextStage, nextList}
 use Rattle.rules.specs.RelayPlaces.{stageFormed, pending}
 use Rattle.neighbor.specs.Holdable.{Holdable}
 use Rattle.neighbor.proofs.Order.{asymmetric}

@@ -1,17 +1,17 @@
 -- An iteration's updates give the same lists in any order: the law of the relay, of offers with no other step in between. Assumes nothing.
 use mathlib.Core.Path.{_≡_, refl, sym, ap, _∙_, subst}
 use mathlib.Core.Bool.{Bool, true, false, cond}
-use mathlib.Core.List.{List, [], _∷_, _++_, append-assoc, append-nil}
+use mathlib.Core.List.{List, [], _∷_, _++_, append-assoc}
 use Prim.Native.Nat.{ℕ, _≤_, _<_}
 use native.Mathlib.Omega.{arith}
 use lib.Dec.{eqb}
-use lib.ListN.{length, take, getD, set, length-set, length-take}
+use lib.ListN.{length, take, set, length-set, length-take}
 use lib.Seq.{take-all, getD-set-same, getD-set-other, ext-getD}
 use lib.Ieee.{Float}
 use borrow.Author.Tests.{eqb-true, eqb-false}
 use Rattle.rules.specs.declared.Neighbor.{Neighbor}
 use Rattle.rules.specs.Loops.{through}
-use Rattle.rules.specs.Lists.{neighbor, insert, insertAll, sort, least}
+use Rattle.rules.specs.Lists.{neighbor, insert, insertAll, least}
 use Rattle.rules.specs.Build.{Between}
 use Rattle.rules.specs.Offers.{offer}
 use Rattle.rules.specs.Descent.{Context, Descent, listAt, Pair, passes, offerTo, update, Met, meet, meetAll, renewed, iterated}

@@ -1,7 +1,7 @@
 -- The offers that a list waits for: those of one job beside those of the others. Assumes nothing.
-use mathlib.Core.Path.{_≡_, refl, sym, ap, _∙_, subst}
+use mathlib.Core.Path.{_≡_, sym, _∙_, subst}
 use mathlib.Core.Bool.{Bool, true, false, cond}
-use mathlib.Core.List.{List, [], _∷_, _++_, append-assoc, append-nil}
+use mathlib.Core.List.{List, [], _∷_, _++_, append-assoc}
 use Prim.Native.Nat.{ℕ, zero, suc, _<_}
 use native.Mathlib.Nat.{le-of-suc-le-suc, not-suc-le-zero}
 use native.Mathlib.Omega.{arith}
@@ -12,7 +12,7 @@ use Rattle.rules.specs.declared.Neighbor.{Neighbor}
 use Rattle.rules.specs.Lists.{insertAll}
 use Rattle.rules.specs.Relay.{Stage, Job, equalNodes, forU, forV, noJob}
 use Rattle.neighbor.specs.Holdable.{Holdable}
-use Rattle.lists.specs.Ascending.{AllHoldable, Perm, same, next, exchange, chain}
+use Rattle.lists.specs.Ascending.{AllHoldable, Perm, same, chain}
 use Rattle.lists.specs.All.{All}
 use Rattle.lists.proofs.Perm.{perm-front, perm-end, perm-append}
 use Rattle.lists.proofs.Laws.{holdable-append, insertAll-append, insertAll-perm}

@@ -6,9 +6,9 @@
 --   it, repeats counted. So no order of the heads changes a list. Which offers were taken up may depend on the order, and is reported as
 --   01's step rules say."
 --
--- Each sentence again, above what renders it. `proofs/Demand3.antt` proves `Demand3` of every opening. Assumes nothing.
+-- Each sentence again, above what renders it. `proofs/Demand3.antt` proves `Demand3 l` from `Asked l`, for every l. Assumes nothing.
 use mathlib.Core.Path.{_≡_}
-use mathlib.Core.Bool.{false, cond}
+use mathlib.Core.Bool.{true, false, cond}
 use mathlib.Core.List.{List, [], _∷_, _++_}
 use Prim.Native.Nat.{ℕ, _+_, _*_, _≤_, _<_}
 use lib.Dec.{eqb}
@@ -19,7 +19,10 @@ use Rattle.rules.specs.declared.Distance.the-variants.{Fit}
 use Rattle.rules.specs.Loops.{each, through}
 use Rattle.rules.specs.Distance.{zero32, nodesApart, between}
 use Rattle.rules.specs.Lists.{neighbor, least}
+use Rattle.rules.specs.Numbers.{most, mostTaught, outside}
 use Rattle.rules.specs.Refusals.{noRefusal, code, jobCount, jobU, jobV}
+use Rattle.rules.specs.Calls.{taughtScratch, relayWords, relayFloats, odd}
+use Rattle.rules.specs.Offers.{listsFormed}
 use Rattle.rules.specs.Build.{Between}
 use Rattle.rules.specs.Descent.{listAt}
 use Rattle.rules.specs.Places.{listsIn}
@@ -29,11 +32,6 @@ use Rattle.orders.specs.Runs.{count}
 use Rattle.orders.specs.Least.{IsLeast}
 
 -- ---- "Open 1 to 64 candidate pairs on a well-formed set of lists, all their distances fit."
-
--- open answers, so that its rows pass: 9 (the pairs), 10 (the distances), 12 (the lists) and those of sizes and lengths; an f32 slice holds binary32 values
-pub record Opens (l : OpenLent) : Type 0 where
-  pub answers : openRule l .said ≡ noRefusal
-  pub floats : Binary32 (l .distances)
 
 -- the number of pairs, the nodes of pair i, and their distance
 abbrev pub pairs : OpenLent → ℕ
@@ -47,6 +45,33 @@ v l i = jobV (l .jobs) i
 
 abbrev pub apart : OpenLent → ℕ → Float
 apart l i = between (l .lanes) (l .dimension) (u l i) (v l i)
+
+-- sizes within their ranges, and lent buffers of the right lengths
+pub record Lent (l : OpenLent) : Type 0 where
+  pub dimension : outside 1 most (l .dimension) ≡ false
+  pub n : outside 2 mostTaught (l .n) ≡ false
+  pub k : outside 1 most (l .k) ≡ false
+  pub lanes : length (l .lanes) ≡ l .n * l .dimension
+  pub nodes : length (l .nodes) ≡ l .n * l .k
+  pub distances : length (l .distances) ≡ l .n * l .k
+  pub jobs : odd (length (l .jobs)) ≡ false
+  pub words : length (l .state-u) ≡ relayWords (l .n) (l .k)
+  pub floats : length (l .state-f) ≡ relayFloats (l .n) (l .k)
+  pub scratch-words : taughtScratch (l .n) ≤ length (l .scratch-u)
+  pub scratch-floats : taughtScratch (l .n) ≤ length (l .scratch-f)
+
+pub record Asked (l : OpenLent) : Type 0 where
+  pub lent : Lent l
+  -- "1 to 64 candidate pairs", of nodes below n
+  pub some : 1 ≤ pairs l
+  pub few : pairs l ≤ 64
+  pub us : (i : ℕ) → i < pairs l → u l i < l .n
+  pub vs : (i : ℕ) → i < pairs l → v l i < l .n
+  -- "a well-formed set of lists"; an f32 slice holds binary32 values
+  pub lists : listsFormed (l .n) (listsIn (l .n) (l .k) (l .nodes) (l .distances)) ≡ true
+  pub binary : Binary32 (l .distances)
+  -- "all their distances fit": that of a pair of two nodes is what open works out
+  pub fit : (i : ℕ) → i < pairs l → eqb (u l i) (v l i) ≡ false → nodesApart (l .lanes) (l .dimension) (u l i) (v l i) ≡ Fit (apart l i)
 
 -- what w's list held
 abbrev pub held : OpenLent → ℕ → List Neighbor
@@ -142,10 +167,8 @@ pub record Finished (l : OpenLent) (order : List ℕ) (c : Room l) : Type 0 wher
 -- ---- the whole
 
 pub record Demand3 (l : OpenLent) : Type 0 where
-  -- "1 to 64 candidate pairs", "all their distances fit"
-  pub some : 1 ≤ pairs l
-  pub few : pairs l ≤ 64
-  pub fit : (i : ℕ) → i < pairs l → eqb (u l i) (v l i) ≡ false → nodesApart (l .lanes) (l .dimension) (u l i) (v l i) ≡ Fit (apart l i)
+  -- "Open"
+  pub opens : openRule l .said ≡ noRefusal
   -- "their eight locked steps in any order": whatever was moved before, a move of a pair succeeds eight times, and is refused from then on
   pub succeeds : (order : List ℕ) (i : ℕ) → i < pairs l → count i order < 8 → moveOf l i (after l order) .said ≡ noRefusal
   pub is-over : (order : List ℕ) (i : ℕ) → i < pairs l → 8 ≤ count i order → moveOf l i (after l order) .said ≡ code 13 i 0

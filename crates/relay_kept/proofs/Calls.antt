@@ -1,21 +1,20 @@
 -- A move of an unfinished job of a well-formed relay always succeeds, and so does a close when all jobs are finished. Assumes nothing.
-use mathlib.Core.Path.{_≡_, refl, sym, ap, _∙_}
-use mathlib.Core.Bool.{Bool, true, false, not, _||_}
+use mathlib.Core.Path.{_≡_, ap, _∙_}
+use mathlib.Core.Bool.{true, false, not, _||_}
 use mathlib.Core.List.{List, [], _∷_}
 use Prim.Native.Nat.{ℕ, _*_, _≤_, _<_}
-use native.Mathlib.Omega.{arith}
-use lib.Dec.{leb, ltb}
+use lib.Dec.{leb}
 use lib.ListN.{length}
 use lib.Ieee.{Float}
 use borrow.Author.Tests.{lt-leb, le-ltb}
 use Rattle.rules.specs.Numbers.{most, mostTaught, outside}
-use Rattle.rules.specs.Refusals.{noRefusal, code, passed, decide, holds, notExactly, row2, row4, row6, row12, row13}
+use Rattle.rules.specs.Refusals.{noRefusal, code, passed, decide, notExactly, row2, row4, row6, row12, row13}
 use Rattle.rules.specs.Calls.{relayWords, relayFloats, moveRows, closeRows}
 use Rattle.rules.specs.Loops.{over}
-use Rattle.rules.specs.Relay.{Job, Relay, moved, isFinished, jobAt, lowestUnfinished, reportsOf}
+use Rattle.rules.specs.Relay.{Relay, moved, isFinished, jobAt, lowestUnfinished, reportsOf}
 use Rattle.rules.specs.Places.{listWords, listFloats}
 use Rattle.rules.specs.RelayPlaces.{relayState, relayStateFloats, relayIn, relayFormed}
-use Rattle.rules.specs.RelayCall.{MoveLent, MoveOutcome, relayOf, moveTable, moveObeys, moveRule, CloseLent, CloseOutcome, closing, closeTable, closeObeys, closeRule}
+use Rattle.rules.specs.RelayCall.{moveTable, moveObeys, moveRule, CloseLent, closeTable, closeObeys, closeRule}
 use Rattle.rules.proofs.Tables.{decide-append, held}
 use Rattle.encoded.proofs.Back.{relay-back, state-long, floats-long}
 use Rattle.relay_kept.specs.Formed.{Formed}

@@ -1,17 +1,17 @@
 -- Well-formed jobs, what they have pushed and not yet popped, and one of them a step further. Assumes nothing.
 use mathlib.Core.Path.{_≡_, refl, sym, ap, _∙_}
-use mathlib.Core.Bool.{Bool, true, false, not, _&&_, cond, true≢false}
-use mathlib.Core.List.{List, [], _∷_, _++_}
-use Prim.Native.Nat.{ℕ, zero, suc, _+_, _-_, _≤_, _<_}
+use mathlib.Core.Bool.{Bool, true, false, _&&_, cond, true≢false}
+use mathlib.Core.List.{List, [], _∷_}
+use Prim.Native.Nat.{ℕ, zero, suc, _+_, _≤_, _<_}
 use native.Mathlib.Nat.{le-of-suc-le-suc, not-suc-le-zero}
 use native.Mathlib.Omega.{arith}
 use lib.Dec.{T, eqb, ltb}
-use lib.ListN.{length, take, drop, getD, set}
+use lib.ListN.{length, getD, set}
 use lib.Seq.{take-set-le, drop-set-lt}
-use lib.Ieee.{Float, binary32, toBits, fits}
+use lib.Ieee.{binary32, toBits, fits}
 use borrow.Author.Tests.{eqb-true, ltb-true, lt-ltb}
 use Rattle.rules.specs.Distance.{fit}
-use Rattle.rules.specs.Relay.{Stage, fresh, looked, pushed, measured, popped, isPopped, Job, equalNodes, noJob, bit}
+use Rattle.rules.specs.Relay.{Stage, fresh, looked, pushed, measured, popped, isPopped, Job, equalNodes, noJob}
 use Rattle.rules.specs.RelayPlaces.{stageFormed, jobFormed, jobsFormed, pending, pendingAt}
 use Rattle.neighbor.specs.Holdable.{Holdable}
 use Rattle.neighbor.proofs.Bits.{holdable-fit}

@@ -2,16 +2,16 @@
 use mathlib.Core.Path.{_≡_, refl, sym, ap, _∙_, subst}
 use mathlib.Core.Bool.{Bool, true, false, not, _&&_, cond, true≢false}
 use mathlib.Core.List.{List, []}
-use Prim.Native.Nat.{ℕ, suc, _+_, _-_, _≤_, _<_}
+use Prim.Native.Nat.{ℕ, _+_, _-_, _≤_, _<_}
 use native.Mathlib.Omega.{arith}
-use lib.Dec.{eqb, ltb}
-use lib.ListN.{length, getD, set, length-set}
+use lib.Dec.{eqb}
+use lib.ListN.{length, set, length-set}
 use lib.Seq.{length-take-le, getD-set-same, getD-set-other}
 use borrow.Author.Tests.{lt-ltb, eqb-true, eqb-false, eq-eqb}
 use Rattle.rules.specs.declared.Neighbor.{Neighbor}
 use Rattle.rules.specs.Offers.{entryFormed, look, pop}
 use Rattle.rules.specs.Descent.{listAt}
-use Rattle.rules.specs.Relay.{Stage, fresh, looked, pushed, measured, popped, isPopped, Job, Relay, nextStage, nextList, moveFirst, moveSecond, moved, equalNodes, noJob, jobAt, bit}
+use Rattle.rules.specs.Relay.{Stage, fresh, looked, pushed, measured, popped, isPopped, Job, Relay, nextStage, nextList, moveFirst, moveSecond, moved, equalNodes, noJob, jobAt}
 use Rattle.rules.specs.RelayPlaces.{stageFormed, pending, pendingAt}
 use Rattle.neighbor.specs.Holdable.{Holdable}
 use Rattle.lists.proofs.Laws.{length-insert}

@@ -1,27 +1,26 @@
 -- What open leaves, on well-formed lists and jobs that row 9 passes, is well formed. Assumes nothing.
-use mathlib.Core.Path.{_≡_, refl, sym, ap, _∙_, subst}
-use mathlib.Core.Bool.{Bool, true, false, not, _||_, cond}
+use mathlib.Core.Path.{_≡_, refl, ap, _∙_}
+use mathlib.Core.Bool.{Bool, true, false, _||_, cond}
 use mathlib.Core.List.{List, [], _∷_}
-use Prim.Native.Nat.{ℕ, _+_, _*_, _/_, _≤_, _<_}
-use native.Mathlib.Nat.{not-suc-le-zero}
+use Prim.Native.Nat.{ℕ, _*_, _≤_, _<_}
 use native.Mathlib.Omega.{arith}
 use lib.Dec.{T, eqb, leb, ltb}
-use lib.ListN.{length, getD}
+use lib.ListN.{length}
 use lib.Ieee.{Float, binary32, toBits, ofBits, fits}
-use borrow.Author.Tests.{ltb-false, leb-false, eq-eqb, eqb-true, not-false}
+use borrow.Author.Tests.{ltb-false, leb-false, not-false}
 use Rattle.rules.specs.declared.Neighbor.{Neighbor}
 use Rattle.rules.specs.Loops.{each, part, firstFrom}
-use Rattle.rules.specs.Numbers.{most, mostTaught, outside}
-use Rattle.rules.specs.Distance.{zero32, fit, between, nodesApart}
+use Rattle.rules.specs.Numbers.{most, outside}
+use Rattle.rules.specs.Distance.{zero32, fit, between}
 use Rattle.rules.specs.Lists.{entries}
-use Rattle.rules.specs.Refusals.{Row, passed, decide, holds, notExactly, jobCount, jobU, jobV, badJob, firstBadJob, row2, row4, row6, row9, row12}
-use Rattle.rules.specs.Calls.{openRows, scratch}
+use Rattle.rules.specs.Refusals.{passed, decide, jobCount, jobU, jobV, badJob, firstBadJob, row2, row4, row6, row9, row12}
+use Rattle.rules.specs.Calls.{openRows}
 use Rattle.rules.specs.Offers.{listsFormed}
 use Rattle.rules.specs.Build.{Between}
 use Rattle.rules.specs.Descent.{listAt}
-use Rattle.rules.specs.Relay.{fresh, Job, Relay, equalNodes, jobOf, opened}
+use Rattle.rules.specs.Relay.{fresh, Job, jobOf, opened}
 use Rattle.rules.specs.Places.{listsIn}
-use Rattle.rules.specs.RelayPlaces.{stageFormed, pending, pendingAt}
+use Rattle.rules.specs.RelayPlaces.{stageFormed, pendingAt}
 use Rattle.rules.specs.RelayCall.{OpenLent, openTable, openedOn}
 use Rattle.rules.proofs.Loops.{first-before}
 use Rattle.rules.proofs.Tables.{within}

@@ -1,34 +1,34 @@
 -- The test of a lent state holds exactly of the encodings of well-formed relays. Assumes nothing.
-use mathlib.Core.Path.{_≡_, refl, sym, ap, _∙_, subst}
-use mathlib.Core.Bool.{Bool, true, false, not, _&&_, cond}
-use mathlib.Core.List.{List, [], _∷_, _++_}
+use mathlib.Core.Path.{_≡_, refl, ap, _∙_}
+use mathlib.Core.Bool.{Bool, true, not, _&&_}
+use mathlib.Core.List.{List, [], _∷_}
 use Prim.Native.Nat.{ℕ, zero, suc, _+_, _-_, _*_, _≤_, _<_, min, zero-le, suc-le-suc}
 use native.Mathlib.Nat.{le-of-suc-le-suc, not-suc-le-zero}
 use native.Mathlib.Omega.{arith}
-use lib.Dec.{T, eqb, ltb}
+use lib.Dec.{T, eqb}
 use lib.ListN.{length, drop, getD, replicate}
 use lib.Ieee.{Float, binary32, fits}
 use lib.Ieee.Bits.{ofBits-fits}
-use borrow.Author.Tests.{eqb-true, eq-eqb, le-ltb, not-true}
+use borrow.Author.Tests.{eqb-true, eq-eqb, not-true}
 use Rattle.rules.specs.declared.Neighbor.{Neighbor}
-use Rattle.rules.specs.Loops.{each, part}
+use Rattle.rules.specs.Loops.{part}
 use Rattle.rules.specs.Numbers.{most, outside}
 use Rattle.rules.specs.Distance.{zero32}
 use Rattle.rules.specs.Lists.{entries, distancesOf}
-use Rattle.rules.specs.Offers.{listFormed, listsFormed}
+use Rattle.rules.specs.Offers.{listsFormed}
 use Rattle.rules.specs.Descent.{listAt}
 use Rattle.rules.specs.Relay.{Job, Relay}
 use Rattle.rules.specs.Places.{sameWords, sameFloats, padded}
 use Rattle.rules.specs.RelayPlaces.{roomFloats, jobsFloats, relayState, relayStateFloats, jobIn, relayIn, jobFormed, jobsFormed, pendingAt, lengthsFormed, relayFormed}
-use Rattle.rules.proofs.Tables.{Within, within}
+use Rattle.rules.proofs.Tables.{within}
 use Rattle.lists.specs.All.{All}
-use Rattle.lists.proofs.Plain.{all-append, all-take, all-of}
-use Rattle.encoded.specs.Words.{Binary32, Readable, Short, Fitting}
+use Rattle.lists.proofs.Plain.{all-append, all-of}
+use Rattle.encoded.specs.Words.{Binary32, Readable, Fitting}
 use Rattle.encoded.proofs.Same.{both, together, same-words, words-same, same-floats, floats-same}
-use Rattle.encoded.proofs.Rows.{length-ones, getD-ones, all-ones, all-part, all-getD}
+use Rattle.encoded.proofs.Rows.{length-ones, all-ones, all-part, all-getD}
 use Rattle.encoded.proofs.Jobs.{job-readable}
 use Rattle.encoded.proofs.Back.{relay-back}
-use Rattle.relay_kept.specs.Formed.{ListFormed, JobFormed, Formed}
+use Rattle.relay_kept.specs.Formed.{JobFormed, Formed}
 use Rattle.relay_kept.proofs.Rows.{inside}
 use Rattle.relay_kept.proofs.Lists.{list-formed, formed-list, lists-formed, formed-lists}
 use Rattle.relay_kept.proofs.Jobs.{parts, holdable-job, jobs-formed, formed-jobs, pending-le}

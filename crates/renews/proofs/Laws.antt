@@ -1,8 +1,8 @@
 -- Entries gathered by their pairs. Assumes nothing.
-use mathlib.Core.Path.{_≡_, refl, sym, ap, ap₂, _∙_}
+use mathlib.Core.Path.{_≡_, refl, sym, ap, _∙_}
 use mathlib.Core.Bool.{Bool, true, false, cond, not, _&&_}
 use mathlib.Core.List.{List, [], _∷_, _++_, append-nil}
-use Prim.Native.Nat.{ℕ, zero, suc, _+_, _-_, _*_, _≤_, _<_}
+use Prim.Native.Nat.{ℕ, suc, _+_, _*_, _≤_, _<_}
 use native.Mathlib.Nat.{suc-mul, mul-le-mul-right, mul-le-mul}
 use native.Mathlib.Numerals.{add-one}
 use native.Mathlib.Omega.{arith}
@@ -18,7 +18,7 @@ use Rattle.lists.specs.All.{All}
 use Rattle.lists.proofs.Plain.{all-at}
 use Rattle.visits.specs.Marks.{Holds}
 use Rattle.meets.specs.Meets.{marksAt}
-use Rattle.renews.specs.Renews.{taken, counted, chosen, Lists, Gathered}
+use Rattle.renews.specs.Renews.{taken, counted, chosen, Gathered}
 
 -- ---- one entry
 

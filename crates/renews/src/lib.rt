@@ -6,7 +6,7 @@ ghost use Prim.Native.Nat.{_+_, _*_, _/_, _≤_, _<_};
 ghost use lib.ListN.{length};
 ghost use Rattle.visits.specs.Marks.{Holds};
 ghost use Rattle.meets.specs.Meets.{marksAt};
-ghost use Rattle.renews.specs.Renews.{Lists, counted, Gathered};
+ghost use Rattle.renews.specs.Renews.{Lists, counted, Gathered, NewPut, OldPut, Renews};
 use rules::NodeId;
 
 /// Draws used so far, and the total of new.
@@ -52,4 +52,81 @@ fn gather(words: &[u32], n: usize, k: usize, i: NodeId, visited: bool, out: &mut
         j += 1;
     }
     len
+}
+
+// Writes node `i`'s new list, shuffled and cut if longer than `s`, to the 65 words of `dst`, and counts its entries and draws.
+fn renew_new(
+    words: &[u32],
+    n: usize,
+    k: usize,
+    s: usize,
+    draws: &[u32],
+    i: NodeId,
+    found: &mut [u32],
+    dst: &mut [u32],
+    so_far: Drawn,
+) -> Drawn
+    requires { ⌜ Lists n k (now words) × (i .0 < n) × (length (now found) ≡ 64) × (length (now dst) ≡ 65) × («so_far» .at + k ≤ length (now draws)) × («so_far» .total ≤ 2147483648) × («so_far» .at ≤ 2147483648) ⌝ }
+    ensures { λ r. ⌜ NewPut (now (draws .entry)) n k s (i .0) (now (words .entry)) («so_far» .total) («so_far» .at) (now (found .exit)) (now (dst .exit)) (r .total) (r .at) ⌝ }
+{
+    let len = gather(words, n, k, i, true, found);
+    let at = so_far.at;
+    let from = shuffles::keep_new(&mut found[0..len], s, draws, at);
+    let next = shuffles::drawn_after(&found[0..len], s, at);
+    members::put_members(&found[from..len], dst);
+    Drawn {
+        total: so_far.total + len,
+        at: next,
+    }
+}
+
+// Writes node `i`'s old list to the 65 words of `dst`.
+fn renew_old(words: &[u32], n: usize, k: usize, i: NodeId, found: &mut [u32], dst: &mut [u32])
+    requires { ⌜ Lists n k (now words) × (i .0 < n) × (length (now found) ≡ 64) × (length (now dst) ≡ 65) ⌝ }
+    ensures { λ _. ⌜ OldPut n k (i .0) (now (words .entry)) (now (found .exit)) (now (dst .exit)) ⌝ }
+{
+    let len = gather(words, n, k, i, false, found);
+    members::put_members(&found[0..len], dst);
+}
+
+/// Writes the new and the old list of every node, rising, to contexts of 260 words each; all pairs are read before any is cleared
+/// (hora's `iterate`, its first half). What stands behind the two lists of a context is left as it was.
+pub fn renew_all(
+    words: &[u32],
+    n: usize,
+    k: usize,
+    s: usize,
+    draws: &[u32],
+    found: &mut [u32],
+    contexts: &mut [u32],
+) -> Drawn
+    requires { ⌜ Lists n k (now words) × (length (now found) ≡ 64) × (260 * n ≤ length (now contexts)) × (n * k ≤ length (now draws)) ⌝ }
+    ensures { λ r. ⌜ Renews (now (draws .entry)) n k s (now (words .entry)) (now (contexts .entry)) (now (contexts .exit)) (r .total) (r .at) n ⌝ }
+{
+    let mut total: usize = 0;
+    let mut at: usize = 0;
+    let mut i: usize = 0;
+    while i < n {
+        let new = 260 * i;
+        let old = new + 65;
+        let end = old + 65;
+        let node = NodeId(i as u32);
+        let so_far = Drawn { total, at };
+        let next = renew_new(
+            words,
+            n,
+            k,
+            s,
+            draws,
+            node,
+            found,
+            &mut contexts[new..old],
+            so_far,
+        );
+        renew_old(words, n, k, node, found, &mut contexts[old..end]);
+        total = next.total;
+        at = next.at;
+        i += 1;
+    }
+    Drawn { total, at }
 }

@@ -9,16 +9,10 @@ cast-if1 : tie.Need-cast-if1
 cast-if1 c = search needs
 
 returns : tie.Need-returns
-returns c = offered-self (c .before .before .before .before .before .pre .1 .0 .1) (c .if1 .taken)
+returns c = offered-self (c .before .before .before .before .pre .1 .0 .1) (c .if1 .taken)
 
 cast-t11 : tie.Need-cast-t11
 cast-t11 c = search needs
-
-mul-t9 : tie.Need-mul-t9
-mul-t9 c = search needs
-
-shared-slice-read-t14 : tie.Need-shared-slice-read-t14
-shared-slice-read-t14 c = search needs
 
 goes-behind-requires : tie.Need-goes-behind-requires
 goes-behind-requires c κs = search needs
@@ -31,9 +25,8 @@ same-length-2 c = search needs
 
 returns-2 : tie.Need-returns-2
 returns-2 c =
-    let other = c .before .before .before .before .before in
-    let pre = other .before .before .before .before .before .pre .1 .0 in
-    offered-behind (pre .1) (pre .2) (pre .3) (other .if1 .left) (sym (c .before .goes-behind .ensures) ∙ c .if2 .taken)
+    let pre = c .before .before .before .before .before .before .before .before .pre .1 .0 in
+    offered-behind (pre .1) (pre .2) (pre .3) (c .before .before .before .before .if1 .left) (sym (c .before .goes-behind .ensures) ∙ c .if2 .taken)
 
 push-cut-requires : tie.Need-push-cut-requires
 push-cut-requires c κs = search needs
@@ -45,10 +38,7 @@ same-length-4 : tie.Need-same-length-4
 same-length-4 c = search needs
 
 returns-3 : tie.Need-returns-3
-returns-3 c =
-    let made = c .before .before .before .before in
-    let other = made .before .before .before .before .before .before .before .before in
-    offered-other (other .before .before .before .before .before .pre .1 .0 .1) (other .if1 .left) (made .push-cut .ensures)
+returns-3 c = offered-other (c .before .before .before .before .before .before .before .before .before .before .before .before .before .before .before .pre .1 .0 .1) (c .before .before .before .before .before .before .before .before .before .before .before .if1 .left) (c .before .before .before .before .push-cut .ensures)
 
 pub offer-spec : {M : Type 1} → statement M
 offer-spec =
@@ -57,8 +47,6 @@ offer-spec =
     cast-if1
     returns
     cast-t11
-    mul-t9
-    shared-slice-read-t14
     goes-behind-requires
     same-length
     same-length-2

@@ -6,10 +6,6 @@ use Rattle.members.proofs.Laws.{set-long, part-long, put-long, put-zero
 use borrow.Author.Needs.{needs}
 use Rattle.members.proofs.put_members.Statement.{statement}
 use Rattle.members.proofs.put_members.Tie as tie
-use Rattle.members.proofs.put_members.Reads as reads
-use Rattle.members.proofs.put_members.Lts as lts
-use Rattle.buffers.proofs.copy_words.Reads as copy-words-reads
-use Rattle.buffers.proofs.zero_words.Reads as zero-words-reads
 
 zero-words-requires : tie.Need-zero-words-requires
 zero-words-requires c κs = search needs

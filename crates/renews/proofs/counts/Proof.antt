@@ -6,9 +6,6 @@ use Rattle.renews.proofs.Laws.{counted-none, counted-is}
 use borrow.Author.Needs.{needs}
 use Rattle.renews.proofs.counts.Statement.{statement}
 use Rattle.renews.proofs.counts.Tie as tie
-use Rattle.renews.proofs.counts.Reads as reads
-use Rattle.renews.proofs.counts.Lts as lts
-use Rattle.visits.proofs.is_visited.Reads as is-visited-reads
 
 cast-if1 : tie.Need-cast-if1
 cast-if1 c = search needs

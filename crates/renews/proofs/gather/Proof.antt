@@ -1,14 +1,11 @@
 -- `renews::gather` meets its contract: the entries before the j-th are passed. Assumes nothing.
 use mathlib.Core.Path.{refl}
-use Prim.Native.Nat.{_+_, _-_, _*_, _≤_}
+use Prim.Native.Nat.{_-_}
 use native.Mathlib.Omega.{arith}
-use Rattle.renews.proofs.Laws.{Where, where-is, Gathering, gathering-none, gathering-more, gathering-end}
+use Rattle.renews.proofs.Laws.{where-is, Gathering, gathering-none, gathering-more, gathering-end}
 use borrow.Author.Needs.{needs}
 use Rattle.renews.proofs.gather.Statement.{statement}
 use Rattle.renews.proofs.gather.Tie as tie
-use Rattle.renews.proofs.gather.Reads as reads
-use Rattle.renews.proofs.gather.Lts as lts
-use Rattle.renews.proofs.counts.Reads as counts-reads
 
 abbrev Inv-loop : tie.InvT-loop
 Inv-loop words n k i visited out₀ base from len₀ j₀ out len j = Gathering n k (i .0) visited words out len j

@@ -1,29 +1,30 @@
--- `taught::exact_all` meets its contract: the lists before the q-th stand. Assumes nothing.
+-- `taught::one_by_one` meets its contract: the lists before the q-th stand. Assumes nothing.
 use mathlib.Core.Path.{_≡_, refl, sym}
 use Prim.Native.Nat.{ℕ, _+_, _-_, _*_, _≤_}
 use native.Mathlib.Omega.{arith}
 use lib.ListN.{length, length-take, length-drop}
 use Rattle.rules.specs.Distance.{between}
-use Rattle.taught.proofs.Laws.{Where, where-is, Teaching, teaching-more, teaching-end}
+use Rattle.taught.proofs.Laws.{Where, where-is, Teaching, ranged-none, teaching-more, taught}
+use Rattle.exact.proofs.Laws.{exact-listed}
 use borrow.Author.Needs.{needs}
-use Rattle.taught.proofs.exact_all.Statement.{statement}
-use Rattle.taught.proofs.exact_all.Tie as tie
+use Rattle.taught.proofs.one_by_one.Statement.{statement}
+use Rattle.taught.proofs.one_by_one.Tie as tie
 
 abbrev Inv-loop : tie.InvT-loop
-Inv-loop lanes dimension n init-k row₀ lists₀ nodes₀ dists₀ q₀ row lists nodes dists q = (q ≤ n) × Teaching (between lanes dimension) n init-k lists₀ row₀ lists row nodes dists q
+Inv-loop lanes dimension n init-k row₀ lists₀ nodes₀ dists₀ q₀ row lists nodes dists q = (q ≤ n) × Teaching (between lanes dimension) n init-k 0 lists₀ row₀ lists row nodes dists q
 
 abbrev μ-loop : tie.MeasureT-loop
 μ-loop lanes dimension n init-k row₀ lists₀ nodes₀ dists₀ q₀ row lists nodes dists q = n - q
 
 loop-holds : tie.Need-loop-holds Inv-loop μ-loop
-loop-holds c = (search needs, record { each = λ (p : ℕ) l. absurd (omega arith); long = refl; row-long = refl; nodes-long = refl; dists-long = refl })
+loop-holds c = (search needs, record { ranged = ranged-none _ _ _ _ _; row-long = refl; nodes-long = refl; dists-long = refl })
 
 -- where the list that is written lies
 top : (c : tie.In-loop Inv-loop μ-loop) → Where (c .before .before .before .before .before .args .n) (c .before .before .before .before .before .args .init-k) (c .before .loop .q) (length (c .before .loop .lists))
 top c =
     let start = c .before .before .before .before .before in
     let p = start .pre in
-    let long = c .before .loop .inv .1 .long in
+    let long = c .before .loop .inv .1 .ranged .long in
     let fits = p .1 .2 in
     where-is _ _ _ _ (c .loop-test .taken) (p .0 .1) (p .1 .1) (omega arith)
 
@@ -84,19 +85,19 @@ loop-again c =
     let q = at .loop .q in
     let k = start .args .init-k in
     let e : q * k + k - q * k ≡ k = omega arith in
-    (search needs, teaching-more inv e (c .before .before .before .before .before .before .before .before .before .before .before .loop-test .taken) (p .0 .1) (p .1 .1) (p .1 .2) (c .before .before .before .before .before .before .exact-list .ensures) (c .before .before .before .before .before .before .exact-list .kept .1 .1 .1 .1 .1 .1 .0) (c .before .before .before .before .before .before .exact-list .kept .1 .1 .1 .1 .1 .1 .1 .0))
+    (search needs, teaching-more inv e (search needs) (c .before .before .before .before .before .before .before .before .before .before .before .loop-test .taken) (p .0 .1) (p .1 .1) (p .1 .2) (exact-listed (c .before .before .before .before .before .before .exact-list .ensures)) (c .before .before .before .before .before .before .exact-list .ensures .row-long) (c .before .before .before .before .before .before .exact-list .kept .1 .1 .1 .1 .1 .1 .0) (c .before .before .before .before .before .before .exact-list .kept .1 .1 .1 .1 .1 .1 .1 .0))
 
 same-length : tie.Need-same-length Inv-loop μ-loop
 same-length c = c .before .loop .inv .1 .row-long
 
 same-length-2 : tie.Need-same-length-2 Inv-loop μ-loop
-same-length-2 c = c .before .loop .inv .1 .long
+same-length-2 c = c .before .loop .inv .1 .ranged .long
 
 returns : tie.Need-returns Inv-loop μ-loop
-returns c = teaching-end (c .before .loop .inv .1) (search needs)
+returns c = let inv = c .before .loop .inv .1 in taught (inv .ranged) (inv .row-long) (search needs)
 
-pub exact-all-spec : {M : Type 1} → statement M
-exact-all-spec =
+pub one-by-one-spec : {M : Type 1} → statement M
+one-by-one-spec =
     tie.close
     (tie.spec
     Inv-loop

@@ -1,0 +1,3 @@
+-- `Laws`: the laws of the block. `Pairs`: pairs that are fit.
+pub mod Laws
+pub mod Pairs

@@ -1,0 +1,77 @@
+-- `clear` meets its contract: the eight are fit with the nodes before j.
+use mathlib.Core.Path.{_≡_, refl, sym, subst, _∙_}
+use Prim.Native.Nat.{ℕ, _+_, _≤_, _<_, _-_}
+use native.Mathlib.Omega.{arith}
+use lib.Dec.{T}
+use lib.ListN.{length}
+use denote.Ref.{now}
+use borrow.Author.Needs.{needs}
+use Rattle.rules.specs.Distance.{nodesApart}
+use Rattle.metrics.proofs.Steps.{room}
+use Rattle.kernels.specs.Eight.{Clear}
+use Rattle.kernels.proofs.Laws.{not-not}
+use Rattle.kernels.proofs.Pairs.{clear-more}
+use Rattle.kernels.proofs.clear.Statement.{statement}
+use Rattle.kernels.proofs.clear.Tie as tie
+
+abbrev Inv-loop : tie.InvT-loop
+Inv-loop lanes dimension n base block j₀ j = (base ≤ j) × (j ≤ n) × Clear (nodesApart lanes dimension) n base (base + 8) j
+
+abbrev μ-loop : tie.MeasureT-loop
+μ-loop lanes dimension n base block j₀ j = n - j
+
+block-of-requires : tie.Need-block-of-requires Inv-loop μ-loop
+block-of-requires c κs = search needs
+
+loop-holds : tie.Need-loop-holds Inv-loop μ-loop
+loop-holds c = (search needs, search needs, λ (i j : ℕ) lo hi l m. absurd (omega arith))
+
+cast-t11 : tie.Need-cast-t11 Inv-loop μ-loop
+cast-t11 c = search needs
+
+lanes-of-requires : tie.Need-lanes-of-requires Inv-loop μ-loop
+lanes-of-requires c κs = room _ _ _ _ (c .before .before .before .before .pre .0) (search needs)
+
+totals8-requires : tie.Need-totals8-requires Inv-loop μ-loop
+totals8-requires c κs = search needs
+
+all-fit-requires : tie.Need-all-fit-requires Inv-loop μ-loop
+all-fit-requires c κs = search needs
+
+returns : tie.Need-returns Inv-loop μ-loop
+returns c = λ e. absurd (subst T (sym e) tt)
+
+add-j : tie.Need-add-j Inv-loop μ-loop
+add-j c = search needs
+
+loop-less : tie.Need-loop-less Inv-loop μ-loop
+loop-less c = search needs
+
+loop-again : tie.Need-loop-again Inv-loop μ-loop
+loop-again c =
+    let told = c .before .before in
+    let cut = told .before .before in
+    let at = cut .before .before in
+    let args = at .before .before .before .args in
+    (search needs, search needs, clear-more (now (args .lanes)) (args .dimension) (args .n) (args .base) _ _ (told .totals8 .result) (at .loop .j) (at .before .block-of .ensures) (cut .lanes-of .ensures .contents) (cut .lanes-of .ensures .long) (told .totals8 .ensures) (c .before .all-fit .ensures (not-not _ (c .if1 .left))) (search needs) (at .loop .inv .2))
+
+returns-2 : tie.Need-returns-2 Inv-loop μ-loop
+returns-2 c = λ e (i j : ℕ) lo hi l m. c .before .loop .inv .2 i j lo hi l (omega arith)
+
+pub clear-spec : {M : Type 1} → statement M
+clear-spec =
+    tie.close
+    (tie.spec
+    Inv-loop
+    μ-loop
+    block-of-requires
+    loop-holds
+    cast-t11
+    lanes-of-requires
+    totals8-requires
+    all-fit-requires
+    returns
+    add-j
+    loop-less
+    loop-again
+    returns-2)

@@ -1,0 +1,2 @@
+-- `Laws`: pairs unvisited, node by node.
+pub mod Laws

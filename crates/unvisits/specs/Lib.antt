@@ -1,0 +1,2 @@
+-- The new lists in contexts, and their pairs unvisited.
+pub mod Unvisits
