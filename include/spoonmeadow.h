@@ -10,7 +10,7 @@
    - After success scratch is all zero, all of it, also where it is longer than asked. What it held before never matters.
    - A const slice is never written.
 
-   Distances are binary32 and cross this boundary by their bits; for fit distances the order of bits is the order of distances. */
+   Distances are binary32. Search gives them by their bits; for fit distances the order of bits is the order of distances. */
 #ifndef SPOONMEADOW_H
 #define SPOONMEADOW_H
 
@@ -42,8 +42,9 @@ enum {
 /* Ranges. */
 #define SPOONMEADOW_LEAST_NODES 2
 #define SPOONMEADOW_MOST_NODES 4096
+#define SPOONMEADOW_MOST_NODES_TAUGHT 1024 /* of a descent and a relay */
 #define SPOONMEADOW_MOST_DIMENSION 64
-#define SPOONMEADOW_MOST_K 64 /* of search's k, init_k, index_size and the count of roots */
+#define SPOONMEADOW_MOST_K 64 /* of search's k, init_k, index_size, a descent's and a relay's k, the count of roots and of jobs */
 #define SPOONMEADOW_MOST_NEIGHBOR_NEIGHBOR_SIZE 256
 
 /* The parameters of a build where nothing else is wanted. */
@@ -60,8 +61,16 @@ enum {
 #define SPOONMEADOW_GRAPH_LENGTH(n, index_size) ((size_t)(n) * (size_t)(index_size))
 #define SPOONMEADOW_BUILD_SCRATCH(n, init_k, index_size) (4 * (size_t)(n) * ((size_t)(init_k) + (size_t)(index_size)) + 4096)
 #define SPOONMEADOW_SEARCH_SCRATCH(n) (4 * (size_t)(n) + 1024)
+#define SPOONMEADOW_TAUGHT_SCRATCH(n) (512 * (size_t)(n) + 4096) /* of a descent and of opening a relay */
+#define SPOONMEADOW_LISTS_LENGTH(n, k) ((size_t)(n) * (size_t)(k))
+#define SPOONMEADOW_BEGIN_DRAWS(n, s) (2 * (size_t)(n) * (size_t)(s))
+#define SPOONMEADOW_DESCENT_STATE_U(n, k) ((size_t)(n) * (size_t)(k) + 260 * (size_t)(n) + ((size_t)(n) * (size_t)(n) + 31) / 32)
+#define SPOONMEADOW_DESCENT_STATE_F(n, k) ((size_t)(n) * (size_t)(k))
+#define SPOONMEADOW_RELAY_STATE_U(n, k) ((size_t)(n) * ((size_t)(k) + 65) + 1024)
+#define SPOONMEADOW_RELAY_STATE_F(n, k) ((size_t)(n) * ((size_t)(k) + 64) + 64)
+#define SPOONMEADOW_REPORTS_LENGTH 128
 
-/* What a build says: a refusal with its places, or 0, 0, 0. */
+/* What every other call says: a refusal with its places, or 0, 0, 0. */
 typedef struct {
     size_t refusal;
     size_t first;
@@ -112,6 +121,49 @@ spoonmeadow_found spoonmeadow_search(
     uint32_t *result_bits, size_t result_bits_length,
     uint32_t *scratch_u, size_t scratch_u_length,
     float *scratch_f, size_t scratch_f_length);
+
+/* Begins a descent: writes its state, unfilled lists, and for each node s new and s reversed-new entries, each a draw modulo n.
+   Refusals: 1, 2, 3, 4 (k 1 to 64, s 1 to k), 6, 10 at the first unfit pair, 11. docs/LAYOUT.md says what lies where in the state.
+
+   lanes         exactly SPOONMEADOW_LANES_LENGTH(n, dimension), node by node
+   draws         at least SPOONMEADOW_BEGIN_DRAWS(n, s)
+   state_u       exactly SPOONMEADOW_DESCENT_STATE_U(n, k)
+   state_f       exactly SPOONMEADOW_DESCENT_STATE_F(n, k)
+   scratch_u, scratch_f        each at least SPOONMEADOW_TAUGHT_SCRATCH(n) */
+spoonmeadow_said spoonmeadow_begin(
+    size_t dimension, size_t n,
+    const float *lanes, size_t lanes_length,
+    size_t k, size_t s,
+    const uint32_t *draws, size_t draws_length,
+    uint32_t *state_u, size_t state_u_length,
+    float *state_f, size_t state_f_length,
+    uint32_t *scratch_u, size_t scratch_u_length,
+    float *scratch_f, size_t scratch_f_length);
+
+/* Moves a relay by one step of a job (0, 1, ..): look, push, measure and pop for its first node's list, then for its second's.
+   Refusals: 2, 4 (k), 6, 12, 13.
+
+   state_u       exactly SPOONMEADOW_RELAY_STATE_U(n, k)
+   state_f       exactly SPOONMEADOW_RELAY_STATE_F(n, k) */
+spoonmeadow_said spoonmeadow_move_job(
+    size_t n, size_t k, size_t job,
+    uint32_t *state_u, size_t state_u_length,
+    float *state_f, size_t state_f_length);
+
+/* Closes a relay whose jobs are all finished: writes its lists, and for each job whether each of its two offers was taken up (1 or 0) to the
+   front of reports, the rest unchanged. The state is left as it is. Refusals: 2, 4 (k), 6, 12, 13.
+
+   state_u       exactly SPOONMEADOW_RELAY_STATE_U(n, k)
+   state_f       exactly SPOONMEADOW_RELAY_STATE_F(n, k)
+   nodes, distances            exactly SPOONMEADOW_LISTS_LENGTH(n, k)
+   reports       exactly SPOONMEADOW_REPORTS_LENGTH */
+spoonmeadow_said spoonmeadow_close(
+    size_t n, size_t k,
+    const uint32_t *state_u, size_t state_u_length,
+    const float *state_f, size_t state_f_length,
+    uint32_t *nodes, size_t nodes_length,
+    float *distances, size_t distances_length,
+    uint32_t *reports, size_t reports_length);
 
 #ifdef __cplusplus
 }

@@ -97,6 +97,15 @@ static void call(uint64_t entry) {
     case 2:
         say_found(spoonmeadow_search(number[0], number[1], F(0), U(1), number[2], U(2), F(3), number[3], U(4), U(5), U(6), F(7)));
         break;
+    case 3:
+        say_said(spoonmeadow_begin(number[0], number[1], F(0), number[2], number[3], U(1), U(2), F(3), U(4), F(5)));
+        break;
+    case 6:
+        say_said(spoonmeadow_move_job(number[0], number[1], number[2], U(0), F(1)));
+        break;
+    case 7:
+        say_said(spoonmeadow_close(number[0], number[1], U(0), F(1), U(2), F(3), U(4)));
+        break;
     default:
         must(0, "no such entry");
     }

@@ -9,14 +9,15 @@ use Rattle.rules.specs.Refusals.{Code, saidOf}
 use Rattle.rules.specs.BuildCall.{BuildLent}
 use Rattle.rules.specs.SearchCall.{SearchLent, SearchSaid, searchSaid}
 use Rattle.rules.specs.DescentCall.{DescentLent}
-use Rattle.rules.specs.RelayCall.{MoveLent}
+use Rattle.rules.specs.RelayCall.{MoveLent, CloseLent}
 use Rattle.build.specs.Build as build
 use Rattle.search.specs.Search as search
 use Rattle.descent.specs.Descent as descent
 use Rattle.relay_move.specs.Move as move-job
+use Rattle.relay_close.specs.Close as close
 use Rattle.spoonmeadow.specs.declared.Said.{Said}
 use Rattle.spoonmeadow.specs.declared.Found.{Found}
-use Rattle.spoonmeadow.specs.Across.{codeIn, foundIn, Built, Searched, Begun, Moved}
+use Rattle.spoonmeadow.specs.Across.{codeIn, foundIn, Built, Searched, Begun, Moved, Closed}
 
 pub built : {l : BuildLent} {a : Answer} {s : Said} {graph su : List ℕ} {sf : List Float} → codeIn s ≡ saidOf a
     → build.Built l a graph su sf → Built l s graph su sf
@@ -41,3 +42,8 @@ pub moved : {l : MoveLent} {a : Answer} {s : Said} {us : List ℕ} {fs : List Fl
     → move-job.Moved l a us fs → Moved l s us fs
 moved {l} {a} {s} {us} {fs} e m =
     record { whole = ap (λ (said : Code). record { said = said; state-u = us; state-f = fs }) e ∙ m .whole }
+
+pub closed : {l : CloseLent} {a : Answer} {s : Said} {nodes : List ℕ} {distances : List Float} {reports : List ℕ} → codeIn s ≡ saidOf a
+    → close.Closed l a nodes distances reports → Closed l s nodes distances reports
+closed {l} {a} {s} {nodes} {distances} {reports} e b =
+    record { whole = ap (λ (said : Code). record { said = said; nodes = nodes; distances = distances; reports = reports }) e ∙ b .whole }

@@ -7,7 +7,7 @@ use Rattle.rules.specs.Refusals.{Code, code}
 use Rattle.rules.specs.BuildCall.{BuildLent, BuildOutcome, buildRule}
 use Rattle.rules.specs.SearchCall.{SearchLent, SearchSaid, SearchOutcome, searchRule}
 use Rattle.rules.specs.DescentCall.{DescentLent, beginRule}
-use Rattle.rules.specs.RelayCall.{MoveLent, MoveOutcome, moveRule}
+use Rattle.rules.specs.RelayCall.{MoveLent, MoveOutcome, moveRule, CloseLent, CloseOutcome, closeRule}
 use Rattle.descent.specs.Descent.{left}
 use Rattle.spoonmeadow.specs.declared.Said.{Said}
 use Rattle.spoonmeadow.specs.declared.Found.{Found}
@@ -40,3 +40,9 @@ moveLeft s us fs = record { said = codeIn s; state-u = us; state-f = fs }
 
 pub record Moved (l : MoveLent) (r : Said) (us : List ℕ) (fs : List Float) : Type 0 where
   pub whole : moveLeft r us fs ≡ moveRule l
+
+abbrev pub closeLeft : Said → List ℕ → List Float → List ℕ → CloseOutcome
+closeLeft s nodes distances reports = record { said = codeIn s; nodes = nodes; distances = distances; reports = reports }
+
+pub record Closed (l : CloseLent) (r : Said) (nodes : List ℕ) (distances : List Float) (reports : List ℕ) : Type 0 where
+  pub whole : closeLeft r nodes distances reports ≡ closeRule l

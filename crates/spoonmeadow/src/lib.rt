@@ -7,7 +7,8 @@ ghost use Rattle.build.specs.Build.{lent as buildLent};
 ghost use Rattle.search.specs.Search.{lent as searchLent};
 ghost use Rattle.descent.specs.Descent.{lent as descentLent};
 ghost use Rattle.relay_move.specs.Move.{lent as moveLent};
-ghost use Rattle.spoonmeadow.specs.Across.{codeIn, foundIn, Built, Searched, Begun, Moved};
+ghost use Rattle.relay_close.specs.Close.{lent as closeLent};
+ghost use Rattle.spoonmeadow.specs.Across.{codeIn, foundIn, Built, Searched, Begun, Moved, Closed};
 use params::SsgParams;
 use rules::Answer;
 use rules::Refusal;
@@ -201,5 +202,22 @@ pub extern "C" fn spoonmeadow_move_job(
     ensures { λ r. ⌜ Moved (moveLent n k job (now («state_u» .entry)) (now («state_f» .entry))) r (now («state_u» .exit)) (now («state_f» .exit)) ⌝ }
 {
     let a = relay_move::move_job(n, k, job, state_u, state_f);
+    of_answer(a)
+}
+
+/// `close` for C.
+#[no_mangle]
+pub extern "C" fn spoonmeadow_close(
+    n: usize,
+    k: usize,
+    state_u: &[u32],
+    state_f: &[f32],
+    nodes: &mut [u32],
+    distances: &mut [f32],
+    reports: &mut [u32],
+) -> Said
+    ensures { λ r. ⌜ Closed (closeLent n k (now («state_u» .entry)) (now («state_f» .entry)) (now (nodes .entry)) (now (distances .entry)) (now (reports .entry))) r (now (nodes .exit)) (now (distances .exit)) (now (reports .exit)) ⌝ }
+{
+    let a = relay_close::close(n, k, state_u, state_f, nodes, distances, reports);
     of_answer(a)
 }

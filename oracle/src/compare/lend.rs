@@ -9,6 +9,10 @@ const GUARD_WORD: u32 = 0xDEAD_BEEF;
 /// The entries by the numbers that `lend.c` knows them by.
 pub const BUILD: u64 = 1;
 pub const SEARCH: u64 = 2;
+pub const BEGIN: u64 = 3;
+pub const ITERATE: u64 = 4;
+pub const MOVE: u64 = 6;
+pub const CLOSE: u64 = 7;
 
 /// A call as it is lent: whole numbers (an f32 by its bits), and slices as words.
 #[derive(Clone, Debug)]

@@ -2,9 +2,13 @@
 
 pub mod build;
 pub mod damage;
+pub mod descent;
 pub mod fill;
 pub mod lend;
 pub mod plain;
+pub mod relay;
 pub mod search;
+pub mod state;
+pub mod steps;
 pub mod table;
 pub mod tally;

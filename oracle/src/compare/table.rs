@@ -9,15 +9,17 @@ fn outside(low: u64, high: u64, x: u64) -> bool {
     x < low || x > high
 }
 
+/// Row 2.
+pub fn nodes(most: u64, n: u64) -> Option<Code> {
+    outside(2, most, n).then_some((2, 0, 0))
+}
+
 /// Rows 1, 2 and 3.
 pub fn game(dimension: u64, most: u64, n: u64, lanes: usize) -> Option<Code> {
     if outside(1, 64, dimension) {
         return Some((1, 0, 0));
     }
-    if outside(2, most, n) {
-        return Some((2, 0, 0));
-    }
-    (lanes as u64 != n * dimension).then_some((3, 0, 0))
+    nodes(most, n).or_else(|| (lanes as u64 != n * dimension).then_some((3, 0, 0)))
 }
 
 /// Row 4: parameters with their ends.
@@ -57,4 +59,33 @@ pub fn query(dimension: u64, query: usize) -> Option<Code> {
 pub fn pairs(lanes: &[u32], dimension: u64, n: u64) -> Option<Code> {
     let pair = plain::unfit_pair(lanes, dimension as usize, n as usize);
     pair.map(|(i, j)| (10, i as u64, j as u64))
+}
+
+/// Row 9, of jobs as pairs in a slice of even length.
+pub fn jobs(n: u64, jobs: &[u32]) -> Option<Code> {
+    if outside(1, 64, jobs.len() as u64 / 2) {
+        return Some((9, 0, 0));
+    }
+    let bad = |job: &[u32]| job.iter().any(|v| *v as u64 >= n);
+    let first = jobs.chunks(2).position(bad);
+    first.map(|i| (9, i as u64, 0))
+}
+
+/// Row 10 of jobs with unequal nodes, in order.
+pub fn unfit_job(lanes: &[u32], dimension: u64, jobs: &[u32]) -> Option<Code> {
+    let of = |v: u32| &lanes[v as usize * dimension as usize..][..dimension as usize];
+    let unfit =
+        |job: &&[u32]| job[0] != job[1] && !plain::fit(plain::distance(of(job[0]), of(job[1])));
+    let first = jobs.chunks(2).find(unfit);
+    first.map(|job| (10, job[0] as u64, job[1] as u64))
+}
+
+/// Row 11.
+pub fn draws(wanted: u64, lent: usize) -> Option<Code> {
+    ((lent as u64) < wanted).then_some((11, 0, 0))
+}
+
+/// Row 12.
+pub fn formed(formed: bool) -> Option<Code> {
+    (!formed).then_some((12, 0, 0))
 }

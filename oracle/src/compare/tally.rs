@@ -8,6 +8,8 @@ use std::collections::BTreeMap;
 struct Counts {
     cases: usize,
     calls: usize,
+    /// Calls whose reply was not what was expected.
+    noticed: usize,
     differed: usize,
     said: [usize; 14],
 }
@@ -67,6 +69,7 @@ impl Tally {
         counts.said[(reply.outcome.said[0] as usize).min(13)] += 1;
         if let Some(what) = difference(expected, &reply) {
             let what = format!("numbers {:?}: {}", call.numbers, what);
+            self.counts(kind).noticed += 1;
             self.differs(kind, seed, &what);
         }
         reply.outcome
@@ -74,6 +77,10 @@ impl Tally {
 
     pub fn calls(&self) -> usize {
         self.kinds.iter().map(|(_, c)| c.calls).sum()
+    }
+
+    pub fn noticed(&self) -> usize {
+        self.kinds.iter().map(|(_, c)| c.noticed).sum()
     }
 
     pub fn differing(&self) -> usize {

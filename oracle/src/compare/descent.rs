@@ -1,0 +1,235 @@
+//! Begin and an iteration: what they are lent, and what 01 and hora's Rust say of it; begins through both sides.
+
+use super::lend::{Call, Library, Outcome, BEGIN, ITERATE};
+use super::tally::{uncounted, Tally};
+use super::{damage, fill, state, table};
+use crate::cases::*;
+use crate::make;
+use crate::prng::Prng;
+use crate::run;
+use crate::some;
+
+pub type Kind = (&'static str, u64);
+
+/// Begin or an iteration with everything that it is lent.
+#[derive(Clone)]
+pub struct Lent {
+    pub entry: u64,
+    pub dimension: u64,
+    pub n: u64,
+    pub lanes: Vec<u32>,
+    pub k: u64,
+    pub s: u64,
+    pub draws: Vec<u32>,
+    pub state_u: Vec<u32>,
+    pub state_f: Vec<u32>,
+    pub words: Vec<u32>,
+    pub floats: Vec<u32>,
+}
+
+impl Lent {
+    pub fn of(rng: &mut Prng, lanes: &Lanes, (k, s): (usize, usize), draws: &[u32]) -> Self {
+        let n = lanes.nodes;
+        let scratch = [512 * n + 4096; 2].map(|least| fill::at_least(rng, least));
+        Lent {
+            entry: BEGIN,
+            dimension: lanes.dimension as u64,
+            n: n as u64,
+            lanes: lanes.bits.clone(),
+            k: k as u64,
+            s: s as u64,
+            draws: draws.to_vec(),
+            state_u: fill::words(rng, state::descent_words(n as u64, k as u64) as usize),
+            state_f: fill::nans(rng, n * k),
+            words: fill::words(rng, scratch[0]),
+            floats: fill::nans(rng, scratch[1]),
+        }
+    }
+
+    /// The next iteration, on a state and with scratch of any contents.
+    pub fn iteration(
+        &mut self,
+        rng: &mut Prng,
+        (words, bits): (Vec<u32>, Vec<u32>),
+        draws: &[u32],
+    ) {
+        self.entry = ITERATE;
+        self.state_u = words;
+        self.state_f = bits;
+        self.draws = draws.to_vec();
+        self.words = fill::words(rng, self.words.len());
+        self.floats = fill::nans(rng, self.floats.len());
+    }
+
+    /// In the order of `spoonmeadow_begin` and `spoonmeadow_iterate`.
+    fn call(&self) -> Call {
+        let lent = self.clone();
+        Call {
+            entry: self.entry,
+            numbers: vec![self.dimension, self.n, self.k, self.s],
+            slices: vec![
+                lent.lanes,
+                lent.draws,
+                lent.state_u,
+                lent.state_f,
+                lent.words,
+                lent.floats,
+            ],
+        }
+    }
+
+    fn refusal(&self) -> Option<table::Code> {
+        let (n, k, s) = (self.n, self.k, self.s);
+        table::game(self.dimension, 1024, n, self.lanes.len())
+            .or_else(|| table::parameters(&[(1, 64, k), (1, k, s)]))
+            .or_else(|| {
+                let scratch = 512 * n + 4096;
+                table::buffers(
+                    &[
+                        (state::descent_words(n, k), self.state_u.len()),
+                        (n * k, self.state_f.len()),
+                    ],
+                    &[(scratch, self.words.len()), (scratch, self.floats.len())],
+                )
+            })
+            .or_else(|| table::pairs(&self.lanes, self.dimension, n))
+            .or_else(|| {
+                let each = if self.entry == BEGIN { s } else { k };
+                table::draws(2 * n * each, self.draws.len())
+            })
+            .or_else(|| {
+                let formed = self.entry == BEGIN
+                    || state::descent_formed(n, k, &self.state_u, &self.state_f);
+                table::formed(formed)
+            })
+    }
+
+    fn lanes(&self) -> Lanes {
+        Lanes {
+            dimension: self.dimension as usize,
+            nodes: self.n as usize,
+            bits: self.lanes.clone(),
+        }
+    }
+
+    /// hora's counts and state.
+    fn rust(&self) -> ([u64; 2], State) {
+        let (k, s) = (self.k as usize, self.s as usize);
+        if self.entry == BEGIN {
+            let (begun, _) = run::descended(&Descent {
+                lanes: self.lanes(),
+                k,
+                s,
+                begin_draws: self.draws.clone(),
+                iteration_draws: Vec::new(),
+            });
+            return ([0, 0], begun);
+        }
+        let done = run::iterated(&Iterate {
+            lanes: self.lanes(),
+            k,
+            s,
+            state: state::descent_in(self.n, self.k, &self.state_u, &self.state_f),
+            draws: self.draws.clone(),
+        });
+        ([done.cost as u64, done.total_of_new as u64], done.state)
+    }
+
+    fn expected(&self) -> Outcome {
+        let mut slices = self.call().slices;
+        if let Some((number, first, second)) = self.refusal() {
+            let said = [number, first, second, 0, 0];
+            return Outcome { said, slices };
+        }
+        let ([cost, new], left) = self.rust();
+        let (words, bits) = state::descent(&left);
+        slices[2] = words;
+        slices[3] = bits;
+        slices[4].fill(0);
+        slices[5].fill(0);
+        let said = [0, 0, 0, cost, new];
+        Outcome { said, slices }
+    }
+}
+
+/// One call; the state that it left.
+pub fn compare(
+    library: &mut Library,
+    tally: &mut Tally,
+    kind: Kind,
+    lent: &Lent,
+) -> (Vec<u32>, Vec<u32>) {
+    let mut left = tally.call(library, kind, &lent.call(), &lent.expected());
+    let bits = left.slices.swap_remove(3);
+    (left.slices.swap_remove(2), bits)
+}
+
+pub fn descent_of(case: Case) -> Descent {
+    match case {
+        Case::Descent(c) => c,
+        _ => panic!("a descent"),
+    }
+}
+
+const HARMS: usize = 13;
+
+/// Harms one place of what begin or an iteration is lent.
+pub fn harm(rng: &mut Prng, c: &mut Lent) {
+    let scratch = 512 * c.n.min(1024) as usize + 4096;
+    match rng.below(HARMS) {
+        0 => c.dimension = damage::number(rng, 64),
+        1 => c.n = damage::number(rng, 1024),
+        2 => c.n = 1,
+        3 => damage::length(rng, &mut c.lanes),
+        4 => c.k = damage::number(rng, 64),
+        5 => c.s = damage::number(rng, c.k.min(64)),
+        6 => damage::length(rng, &mut c.state_u),
+        7 => damage::length(rng, &mut c.state_f),
+        8 => damage::shorten(rng, &mut c.words, scratch),
+        9 => damage::shorten(rng, &mut c.floats, scratch),
+        10 => damage::lane(rng, &mut c.lanes),
+        11 => damage::length(rng, &mut c.draws),
+        _ => damage::state(rng, &mut c.state_u, &mut c.state_f, c.n as u32),
+    }
+}
+
+/// Any sizes within the ranges.
+fn larger(rng: &mut Prng) -> Lent {
+    let n = rng.pick(&[2, 33, 64, 256, 400]);
+    let (dimension, style) = (rng.pick(&[1, 2, 64]), make::style(rng));
+    let k = rng.from_to(1, 64);
+    let s = rng.from_to(1, k);
+    let c = descent_of(some::descent_at(rng, (n, dimension), style, (k, s), 0));
+    Lent::of(rng, &c.lanes, (c.k, c.s), &c.begin_draws)
+}
+
+fn small(rng: &mut Prng) -> Lent {
+    let c = descent_of(some::any_descent(rng));
+    Lent::of(rng, &c.lanes, (c.k, c.s), &c.begin_draws)
+}
+
+fn damaged(rng: &mut Prng) -> Lent {
+    let mut lent = small(rng);
+    let times = rng.pick(&[1, 1, 1, 2, 3]);
+    (0..times).for_each(|_| harm(rng, &mut lent));
+    lent
+}
+
+/// All begins; one `part`th of them.
+pub fn all(library: &mut Library, tally: &mut Tally, seed: u64, part: u64) {
+    type Maker = fn(&mut Prng) -> Lent;
+    let kinds: [(&'static str, u64, Maker); 3] = [
+        ("begins, n to 16", 4_000, small),
+        ("begins, n to 400", 200, larger),
+        ("begins, damaged", 4_000, damaged),
+    ];
+    let mut at = seed;
+    for (kind, count, maker) in kinds {
+        for _ in 0..count / part {
+            at += 1;
+            let lent = uncounted(|| maker(&mut Prng::new(at)));
+            tally.case(kind);
+            compare(library, tally, (kind, at), &lent);
+        }
+    }
+}

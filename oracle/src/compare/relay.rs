@@ -1,0 +1,213 @@
+//! Relays through both sides: moved in seeded orders with stray calls between, and closed; the state held after every call.
+
+use super::lend::{Call, Library, Outcome, CLOSE, MOVE};
+use super::state::split;
+use super::steps::{relay_floats, relay_words, Steps};
+use super::tally::{uncounted, Tally};
+use super::{damage, fill, table};
+use crate::cases::*;
+use crate::make::{self, Order};
+use crate::prng::Prng;
+use crate::run;
+use crate::some;
+
+pub type Kind = (&'static str, u64);
+
+/// A relay's state as it is lent to a move or a close.
+#[derive(Clone)]
+pub struct Lent {
+    pub n: u64,
+    pub k: u64,
+    pub words: Vec<u32>,
+    pub bits: Vec<u32>,
+}
+
+impl Lent {
+    /// Rows 2, 4, 6 (the state's, and then whether another buffer is wrong) and 12; or the relay that the state holds.
+    fn read(&self, other: bool) -> Result<Steps, table::Code> {
+        let (n, k) = (self.n, self.k);
+        let exact = || {
+            [
+                (relay_words(n, k), self.words.len()),
+                (relay_floats(n, k), self.bits.len()),
+            ]
+        };
+        let refusal = table::nodes(1024, n)
+            .or_else(|| table::parameters(&[(1, 64, k)]))
+            .or_else(|| table::buffers(&exact(), &[(other as u64, 0)]));
+        if let Some(code) = refusal {
+            return Err(code);
+        }
+        Steps::read(n as usize, k as usize, &self.words, &self.bits).ok_or((12, 0, 0))
+    }
+
+    pub fn moving(&self, job: u64) -> (Call, Outcome) {
+        let call = Call {
+            entry: MOVE,
+            numbers: vec![self.n, self.k, job],
+            slices: vec![self.words.clone(), self.bits.clone()],
+        };
+        let mut slices = call.slices.clone();
+        let said = match self.read(false) {
+            Err((number, first, second)) => [number, first, second, 0, 0],
+            Ok(r) if job >= r.jobs.len() as u64 || r.finished(job as usize) => [13, job, 0, 0, 0],
+            Ok(mut r) => {
+                r.step(job as usize);
+                let (words, bits) = r.written();
+                slices = vec![words, bits];
+                [0; 5]
+            }
+        };
+        (call, Outcome { said, slices })
+    }
+
+    fn closing(&self, nodes: Vec<u32>, bits: Vec<u32>, reports: Vec<u32>) -> (Call, Outcome) {
+        let lists = self.n.saturating_mul(self.k);
+        let lengths = [
+            nodes.len() as u64 != lists,
+            bits.len() as u64 != lists,
+            reports.len() != 128,
+        ];
+        let call = Call {
+            entry: CLOSE,
+            numbers: vec![self.n, self.k],
+            slices: vec![self.words.clone(), self.bits.clone(), nodes, bits, reports],
+        };
+        let mut slices = call.slices.clone();
+        let said = match self.read(lengths.contains(&true)) {
+            Err((number, first, second)) => [number, first, second, 0, 0],
+            Ok(r) => match (0..r.jobs.len()).find(|i| !r.finished(*i)) {
+                Some(job) => [13, job as u64, 0, 0, 0],
+                None => {
+                    let (bits, nodes) = r.lists.iter().flatten().copied().unzip();
+                    slices[2] = nodes;
+                    slices[3] = bits;
+                    let reports = r.jobs.iter().flat_map(|j| j.report);
+                    reports.enumerate().for_each(|(i, x)| slices[4][i] = x);
+                    [0; 5]
+                }
+            },
+        };
+        (call, Outcome { said, slices })
+    }
+}
+
+/// A close into buffers for `length` entries, of any contents.
+fn closing(rng: &mut Prng, lent: &Lent, length: usize) -> (Call, Outcome) {
+    let (nodes, bits, reports) = (
+        fill::words(rng, length),
+        fill::nans(rng, length),
+        fill::words(rng, 128),
+    );
+    lent.closing(nodes, bits, reports)
+}
+
+/// A call that has no part in the relay, on a copy of its state: harmed, for an absent or finished job, or a close before the end.
+fn stray(rng: &mut Prng, lent: &Lent, jobs: usize) -> (Call, Outcome) {
+    let mut lent = lent.clone();
+    let length = (lent.n * lent.k) as usize;
+    let job = rng.below(jobs + 1) as u64;
+    match rng.below(12) {
+        0 => lent.n = rng.pick(&[0, 1, 1025, u64::MAX]),
+        1 => lent.k = damage::number(rng, 64),
+        2 => damage::length(rng, &mut lent.words),
+        3 => damage::length(rng, &mut lent.bits),
+        4 => return closing(rng, &lent, length),
+        5 => {
+            let mut lent_out = [
+                fill::words(rng, length),
+                fill::nans(rng, length),
+                fill::words(rng, 128),
+            ];
+            let which = rng.below(3);
+            damage::length(rng, &mut lent_out[which]);
+            let [nodes, bits, reports] = lent_out;
+            return lent.closing(nodes, bits, reports);
+        }
+        6 => return lent.moving(rng.pick(&[job, jobs as u64, 64, 65, u64::MAX])),
+        7..=9 => {
+            let from = (lent.n * (lent.k + 64)) as usize;
+            let to = from + lent.n as usize + 1 + 15 * jobs;
+            damage::state(rng, &mut lent.words[from..to], &mut [], lent.n as u32);
+        }
+        _ => damage::state(rng, &mut lent.words, &mut lent.bits, lent.n as u32),
+    }
+    if rng.one_in(4) {
+        return closing(rng, &lent, length);
+    }
+    lent.moving(job)
+}
+
+/// Moved in the case's order from its opening, and closed; lists and reports are hora's. One move in `often` has a stray call before it.
+fn whole(library: &mut Library, tally: &mut Tally, kind: Kind, c: &Relay, often: usize) {
+    tally.case(kind.0);
+    let rng = &mut Prng::new(kind.1);
+    let rust = run::relay(c);
+    let mut steps = Steps::opened(c);
+    let (words, bits) = steps.written();
+    let (n, k) = (c.lanes.nodes as u64, c.k as u64);
+    let mut lent = Lent { n, k, words, bits };
+    for (job, (node, list)) in c.moves.iter().zip(&rust.moved) {
+        if rng.one_in(often) {
+            let (call, outcome) = stray(rng, &lent, c.jobs.len());
+            tally.call(library, kind, &call, &outcome);
+        }
+        let (call, outcome) = lent.moving(*job as u64);
+        let left = tally.call(library, kind, &call, &outcome);
+        [lent.words, lent.bits] = left.slices.try_into().expect("two slices");
+        steps.step(*job as usize);
+        let plain: Vec<Entry> = steps.lists[*node].iter().map(|e| (e.1, e.0)).collect();
+        if plain != *list {
+            tally.differs(
+                kind.0,
+                kind.1,
+                "the plain reading of a step is not the Rust's list",
+            );
+        }
+    }
+    let (call, outcome) = closing(rng, &lent, (n * k) as usize);
+    let left = tally.call(library, kind, &call, &outcome);
+    let (nodes, bits) = split(&rust.lists);
+    let reports = &left.slices[4][..rust.reports.len()];
+    if left.slices[2] != nodes || left.slices[3] != bits || reports != rust.reports {
+        tally.differs(
+            kind.0,
+            kind.1,
+            "a close did not give the Rust's lists and reports",
+        );
+    }
+}
+
+pub fn relay_of(case: Case) -> Relay {
+    match case {
+        Case::Relay(c) => c,
+        _ => panic!("a relay"),
+    }
+}
+
+/// 16 to 64 jobs on few nodes, so that they meet.
+fn many_jobs(rng: &mut Prng) -> Relay {
+    let (n, dimension, style) = (rng.from_to(2, 12), rng.pick(&[1, 2, 3]), make::style(rng));
+    let (k, count) = (rng.pick(&[1, 2, 3, 8]), rng.pick(&[16, 16, 17, 20, 24, 64]));
+    let mut relay = relay_of(some::relay_at(rng, (n, dimension), style, k, count));
+    relay.moves = make::moves(rng, count, Order::Shuffled);
+    relay
+}
+
+/// All relays; one `part`th of them.
+pub fn all(library: &mut Library, tally: &mut Tally, seed: u64, part: u64) {
+    type Maker = fn(&mut Prng) -> Relay;
+    let small: Maker = |rng| relay_of(some::any_relay(rng));
+    let kinds: [(&'static str, u64, usize, Maker); 2] = [
+        ("relays, 1 to 7 jobs", 3_000, 4, small),
+        ("relays, 16 to 64 jobs", 2_000, 16, many_jobs),
+    ];
+    let mut at = seed;
+    for (kind, count, often, maker) in kinds {
+        for _ in 0..count / part {
+            at += 1;
+            let case = uncounted(|| maker(&mut Prng::new(at)));
+            whole(library, tally, (kind, at), &case, often);
+        }
+    }
+}
