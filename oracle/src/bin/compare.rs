@@ -4,35 +4,70 @@ use oracle::compare::lend::Library;
 use oracle::compare::tally::Tally;
 use oracle::compare::{build, descent, relay, search};
 
-/// Every kind of case once through; one `part`th of them.
-fn run(program: &str, spoils: bool, seed: u64, part: u64) -> Tally {
-    let mut library = Library::start(program, spoils);
-    let mut tally = Tally::new(if spoils { 0 } else { 20 });
-    build::all(&mut library, &mut tally, seed, part);
-    search::all(&mut library, &mut tally, seed, part);
-    descent::all(&mut library, &mut tally, seed, part);
-    relay::all(&mut library, &mut tally, seed, part);
-    library.end();
-    tally
+type All = fn(&mut Library, &mut Tally, u64, u64);
+
+/// The case modules by name, and the beginnings of the branches that each can meet (begin meets none).
+static MODULES: [(&str, All, &[&str]); 4] = [
+    ("build", build::all, &["step", "cosine"]),
+    ("search", search::all, &["search"]),
+    ("descent", descent::all, &[]),
+    ("relay", relay::all, &["offer", "relay"]),
+];
+
+/// What is run: the modules named, or all; and one `part`th of their cases.
+struct Run<'a> {
+    program: &'a str,
+    named: &'a [String],
+    seed: u64,
+    part: u64,
+}
+
+impl Run<'_> {
+    fn go(&self, spoils: bool, part: u64) -> Tally {
+        let mut library = Library::start(self.program, spoils);
+        let mut tally = Tally::new(if spoils { 0 } else { 20 });
+        for (_, all, _) in self.modules() {
+            all(&mut library, &mut tally, self.seed, part);
+        }
+        library.end();
+        tally
+    }
+
+    fn modules(
+        &self,
+    ) -> impl Iterator<Item = &'static (&'static str, All, &'static [&'static str])> + '_ {
+        let named = |name: &str| self.named.is_empty() || self.named.iter().any(|n| n == name);
+        MODULES.iter().filter(move |m| named(m.0))
+    }
 }
 
 fn main() {
     let words: Vec<String> = std::env::args().skip(1).collect();
-    let program = words.first().expect("the program made of lend.c");
     let number = |i: usize, default: u64| {
         let word = words.get(i);
         word.map_or(default, |w| w.parse().expect("a seed, then a part"))
     };
-    let (seed, part) = (number(1, 20_261_115), number(2, 1));
-    let spoiled = run(program, true, seed, part.max(100));
+    let run = Run {
+        program: words.first().expect("the program made of lend.c"),
+        named: words.get(3..).unwrap_or(&[]),
+        seed: number(1, 20_261_115),
+        part: number(2, 1),
+    };
+    let known = |name: &String| MODULES.iter().any(|m| m.0 == name);
+    assert!(
+        run.named.iter().all(known),
+        "build, search, descent or relay"
+    );
+    let spoiled = run.go(true, run.part.max(100));
     let (calls, noticed) = (spoiled.calls(), spoiled.noticed());
     println!(
         "{} replies with one bit turned round, {} noticed",
         calls, noticed
     );
     oracle::local::branches::set_counts(Default::default());
-    let tally = run(program, false, seed, part);
-    tally.print(&["step", "cosine", "search", "offer", "relay"]);
+    let tally = run.go(false, run.part);
+    let beginnings: Vec<&str> = run.modules().flat_map(|m| m.2).copied().collect();
+    tally.print(&beginnings);
     if noticed < calls || tally.differing() > 0 {
         std::process::exit(1);
     }
