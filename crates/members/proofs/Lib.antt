@@ -1,2 +1,3 @@
--- `Laws`: a context list in its words.
+-- `Laws`: a context list in its words. `Contexts`: contexts told by their lists.
 pub mod Laws
+pub mod Contexts
