@@ -137,7 +137,7 @@ fn write_dists(n: usize, k: usize, distances: &[f32], floats: &mut [f32])
 }
 
 /// Writes the state of a relay whose jobs have no step done: the lists in their rooms, their lengths, and the jobs.
-fn write_state(
+pub fn write_state(
     dimension: usize,
     n: usize,
     lanes: &[f32],
