@@ -49,7 +49,7 @@ fn wrong_buffers(
 }
 
 /// The rows that begin and iterate test before their draws: 1, 2, 3, 4 (k and s), 6 and, of all pairs, 10.
-fn judge(
+pub fn judge(
     dimension: usize,
     n: usize,
     lanes: &[f32],

@@ -6,8 +6,9 @@ use Prim.Native.Nat.{ℕ, _*_}
 use lib.ListN.{length}
 use lib.Ieee.{Float}
 use Rattle.rules.specs.Build.{Between}
-use Rattle.rules.specs.Descent.{Descent, Met, meetAll}
-use Rattle.rules.specs.DescentPlaces.{descentIn, descentFormed}
+use Rattle.rules.specs.Descent.{Descent, Met, Iterated, meetAll, iterated}
+use Rattle.rules.specs.Places.{listFloats}
+use Rattle.rules.specs.DescentPlaces.{descentIn, descentFormed, descentState}
 use Rattle.bits.specs.Bits.{Words}
 use Rattle.encoded.specs.Words.{Binary32}
 use Rattle.meets.specs.Meets.{Holds}
@@ -30,4 +31,15 @@ pub record MetIn (d : Between) (n k : ℕ) (us : List ℕ) (fs : List Float) (ws
   pub held : Holds n k (allMet d n k us fs) us' fs' cost
   pub words-long : length us' ≡ length us
   pub floats-long : length fs' ≡ length fs
+  pub scratch-long : length ws' ≡ length ws
+
+-- what the rulebook has after one iteration on what a state encodes
+abbrev pub iteratedOf : Between → List ℕ → ℕ → ℕ → ℕ → List ℕ → List Float → Iterated
+iteratedOf d draws n k s us fs = iterated d draws n k s (descentIn n k us fs)
+
+pub record IteratedIn (d : Between) (draws : List ℕ) (n k s : ℕ) (us : List ℕ) (fs : List Float) (ws us' : List ℕ) (fs' : List Float) (ws' : List ℕ) (cost new : ℕ) : Type 0 where
+  pub words : us' ≡ descentState n (iteratedOf d draws n k s us fs .descent)
+  pub floats : fs' ≡ listFloats (iteratedOf d draws n k s us fs .descent .lists)
+  pub counted : cost ≡ iteratedOf d draws n k s us fs .cost
+  pub totalled : new ≡ iteratedOf d draws n k s us fs .new
   pub scratch-long : length ws' ≡ length ws
