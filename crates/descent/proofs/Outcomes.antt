@@ -67,7 +67,7 @@ module _ (l : DescentLent) where
 
 -- ---- "show that any two outcomes it allows are equal"
 
-pub record Same (a b : Answer) (us us' : List ℕ) (fs fs' : List Float) (su su' : List ℕ) (sf sf' : List Float) : Type 0 where
+pub record Same (A : Type 0) (a b : A) (us us' : List ℕ) (fs fs' : List Float) (su su' : List ℕ) (sf sf' : List Float) : Type 0 where
   pub answer : a ≡ b
   pub state-u : us ≡ us'
   pub state-f : fs ≡ fs'
@@ -75,7 +75,7 @@ pub record Same (a b : Answer) (us us' : List ℕ) (fs fs' : List Float) (su su'
   pub scratch-f : sf ≡ sf'
 
 pub two-outcomes : (l : DescentLent) (a b : Answer) (us us' : List ℕ) (fs fs' : List Float) (su su' : List ℕ) (sf sf' : List Float)
-    → BegunAll l a us fs su sf → BegunAll l b us' fs' su' sf' → Same a b us us' fs fs' su su' sf sf'
+    → BegunAll l a us fs su sf → BegunAll l b us' fs' su' sf' → Same Answer a b us us' fs fs' su su' sf sf'
 two-outcomes l a b us us' fs fs' su su' sf sf' p q =
     let e = p .whole ∙ sym (q .whole) in
     record {
