@@ -68,6 +68,7 @@ enum {
 #define SPOONMEADOW_DESCENT_STATE_F(n, k) ((size_t)(n) * (size_t)(k))
 #define SPOONMEADOW_RELAY_STATE_U(n, k) ((size_t)(n) * ((size_t)(k) + 65) + 1024)
 #define SPOONMEADOW_RELAY_STATE_F(n, k) ((size_t)(n) * ((size_t)(k) + 64) + 64)
+#define SPOONMEADOW_JOBS_LENGTH(jobs) (2 * (size_t)(jobs))
 #define SPOONMEADOW_REPORTS_LENGTH 128
 
 /* What every other call says: a refusal with its places, or 0, 0, 0. */
@@ -135,6 +136,27 @@ spoonmeadow_said spoonmeadow_begin(
     const float *lanes, size_t lanes_length,
     size_t k, size_t s,
     const uint32_t *draws, size_t draws_length,
+    uint32_t *state_u, size_t state_u_length,
+    float *state_f, size_t state_f_length,
+    uint32_t *scratch_u, size_t scratch_u_length,
+    float *scratch_f, size_t scratch_f_length);
+
+/* Opens a relay on lists and on jobs, each a pair of nodes: writes its state, with the distance of each job of unequal nodes.
+   Refusals: 1, 2, 3, 4 (k), 6, 9, 10 at the first unfit job, 12 of the lists. docs/LAYOUT.md says what lies where in the state.
+
+   lanes         exactly SPOONMEADOW_LANES_LENGTH(n, dimension), node by node
+   nodes, distances            exactly SPOONMEADOW_LISTS_LENGTH(n, k), node by node, each list ascending; an unfilled place is node n at the distance of bits SPOONMEADOW_EMPTY
+   jobs          exactly SPOONMEADOW_JOBS_LENGTH(jobs), 1 to 64 jobs, the two nodes of each
+   state_u       exactly SPOONMEADOW_RELAY_STATE_U(n, k)
+   state_f       exactly SPOONMEADOW_RELAY_STATE_F(n, k)
+   scratch_u, scratch_f        each at least SPOONMEADOW_TAUGHT_SCRATCH(n) */
+spoonmeadow_said spoonmeadow_open(
+    size_t dimension, size_t n,
+    const float *lanes, size_t lanes_length,
+    size_t k,
+    const uint32_t *nodes, size_t nodes_length,
+    const float *distances, size_t distances_length,
+    const uint32_t *jobs, size_t jobs_length,
     uint32_t *state_u, size_t state_u_length,
     float *state_f, size_t state_f_length,
     uint32_t *scratch_u, size_t scratch_u_length,

@@ -9,15 +9,16 @@ use Rattle.rules.specs.Refusals.{Code, saidOf}
 use Rattle.rules.specs.BuildCall.{BuildLent}
 use Rattle.rules.specs.SearchCall.{SearchLent, SearchSaid, searchSaid}
 use Rattle.rules.specs.DescentCall.{DescentLent}
-use Rattle.rules.specs.RelayCall.{MoveLent, CloseLent}
+use Rattle.rules.specs.RelayCall.{OpenLent, MoveLent, CloseLent}
 use Rattle.build.specs.Build as build
 use Rattle.search.specs.Search as search
 use Rattle.descent.specs.Descent as descent
+use Rattle.relay_opening.specs.Opening as opening
 use Rattle.relay_move.specs.Move as move-job
 use Rattle.relay_close.specs.Close as close
 use Rattle.spoonmeadow.specs.declared.Said.{Said}
 use Rattle.spoonmeadow.specs.declared.Found.{Found}
-use Rattle.spoonmeadow.specs.Across.{codeIn, foundIn, Built, Searched, Begun, Moved, Closed}
+use Rattle.spoonmeadow.specs.Across.{codeIn, foundIn, Built, Searched, Begun, Opened, Moved, Closed}
 
 pub built : {l : BuildLent} {a : Answer} {s : Said} {graph su : List ℕ} {sf : List Float} → codeIn s ≡ saidOf a
     → build.Built l a graph su sf → Built l s graph su sf
@@ -37,6 +38,11 @@ pub begun : {l : DescentLent} {a : Answer} {s : Said} {us : List ℕ} {fs : List
     → descent.BegunAll l a us fs su sf → Begun l s us fs su sf
 begun {l} {a} {s} {us} {fs} {su} {sf} e b =
     record { whole = ap (λ (said : Code). record { said = said; left = descent.left us fs su sf }) e ∙ b .whole }
+
+pub opened : {l : OpenLent} {a : Answer} {s : Said} {us : List ℕ} {fs : List Float} {su : List ℕ} {sf : List Float} → codeIn s ≡ saidOf a
+    → opening.Opened l a us fs su sf → Opened l s us fs su sf
+opened {l} {a} {s} {us} {fs} {su} {sf} e o =
+    record { whole = ap (λ (said : Code). record { said = said; state-u = us; state-f = fs; scratch-u = su; scratch-f = sf }) e ∙ o .whole }
 
 pub moved : {l : MoveLent} {a : Answer} {s : Said} {us : List ℕ} {fs : List Float} → codeIn s ≡ saidOf a
     → move-job.Moved l a us fs → Moved l s us fs

@@ -7,7 +7,7 @@ use Rattle.rules.specs.Refusals.{Code, code}
 use Rattle.rules.specs.BuildCall.{BuildLent, BuildOutcome, buildRule}
 use Rattle.rules.specs.SearchCall.{SearchLent, SearchSaid, SearchOutcome, searchRule}
 use Rattle.rules.specs.DescentCall.{DescentLent, beginRule}
-use Rattle.rules.specs.RelayCall.{MoveLent, MoveOutcome, moveRule, CloseLent, CloseOutcome, closeRule}
+use Rattle.rules.specs.RelayCall.{OpenLent, OpenOutcome, openRule, MoveLent, MoveOutcome, moveRule, CloseLent, CloseOutcome, closeRule}
 use Rattle.descent.specs.Descent.{left}
 use Rattle.spoonmeadow.specs.declared.Said.{Said}
 use Rattle.spoonmeadow.specs.declared.Found.{Found}
@@ -34,6 +34,12 @@ pub record Searched (l : SearchLent) (r : Found) (nodes bits su : List ℕ) (sf 
 
 pub record Begun (l : DescentLent) (r : Said) (us : List ℕ) (fs : List Float) (su : List ℕ) (sf : List Float) : Type 0 where
   pub whole : record { said = codeIn r; left = left us fs su sf } ≡ beginRule l
+
+abbrev pub openLeft : Said → List ℕ → List Float → List ℕ → List Float → OpenOutcome
+openLeft s us fs su sf = record { said = codeIn s; state-u = us; state-f = fs; scratch-u = su; scratch-f = sf }
+
+pub record Opened (l : OpenLent) (r : Said) (us : List ℕ) (fs : List Float) (su : List ℕ) (sf : List Float) : Type 0 where
+  pub whole : openLeft r us fs su sf ≡ openRule l
 
 abbrev pub moveLeft : Said → List ℕ → List Float → MoveOutcome
 moveLeft s us fs = record { said = codeIn s; state-u = us; state-f = fs }

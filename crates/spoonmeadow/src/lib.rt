@@ -6,9 +6,10 @@ ghost use Rattle.params.specs.Params.{params};
 ghost use Rattle.build.specs.Build.{lent as buildLent};
 ghost use Rattle.search.specs.Search.{lent as searchLent};
 ghost use Rattle.descent.specs.Descent.{lent as descentLent};
+ghost use Rattle.relay_opening.specs.Opening.{lent as openLent};
 ghost use Rattle.relay_move.specs.Move.{lent as moveLent};
 ghost use Rattle.relay_close.specs.Close.{lent as closeLent};
-ghost use Rattle.spoonmeadow.specs.Across.{codeIn, foundIn, Built, Searched, Begun, Moved, Closed};
+ghost use Rattle.spoonmeadow.specs.Across.{codeIn, foundIn, Built, Searched, Begun, Opened, Moved, Closed};
 use params::SsgParams;
 use rules::Answer;
 use rules::Refusal;
@@ -182,6 +183,39 @@ pub extern "C" fn spoonmeadow_begin(
         k,
         s,
         draws,
+        state_u,
+        state_f,
+        scratch_u,
+        scratch_f,
+    );
+    of_answer(a)
+}
+
+/// `open` for C.
+#[no_mangle]
+pub extern "C" fn spoonmeadow_open(
+    dimension: usize,
+    n: usize,
+    lanes: &[f32],
+    k: usize,
+    nodes: &[u32],
+    distances: &[f32],
+    jobs: &[u32],
+    state_u: &mut [u32],
+    state_f: &mut [f32],
+    scratch_u: &mut [u32],
+    scratch_f: &mut [f32],
+) -> Said
+    ensures { λ r. ⌜ Opened (openLent dimension n (now (lanes .entry)) k (now (nodes .entry)) (now (distances .entry)) (now (jobs .entry)) (now («state_u» .entry)) (now («state_f» .entry)) (now («scratch_u» .entry)) (now («scratch_f» .entry))) r (now («state_u» .exit)) (now («state_f» .exit)) (now («scratch_u» .exit)) (now («scratch_f» .exit)) ⌝ }
+{
+    let a = relay_opening::open(
+        dimension,
+        n,
+        lanes,
+        k,
+        nodes,
+        distances,
+        jobs,
         state_u,
         state_f,
         scratch_u,
