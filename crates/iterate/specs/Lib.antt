@@ -1,0 +1,2 @@
+-- What an iteration leaves.
+pub mod Iterate
