@@ -16,9 +16,10 @@ use Rattle.descent.specs.Descent as descent
 use Rattle.relay_opening.specs.Opening as opening
 use Rattle.relay_move.specs.Move as move-job
 use Rattle.relay_close.specs.Close as close
-use Rattle.spoonmeadow.specs.declared.Said.{Said}
-use Rattle.spoonmeadow.specs.declared.Found.{Found}
-use Rattle.spoonmeadow.specs.Across.{codeIn, foundIn, Built, Searched, Begun, Opened, Moved, Closed}
+use Rattle.answers.specs.declared.Said.{Said}
+use Rattle.answers.specs.declared.Found.{Found}
+use Rattle.answers.specs.Answers.{codeIn, foundIn}
+use Rattle.spoonmeadow.specs.Across.{Built, Searched, Begun, Opened, Moved, Closed}
 
 pub built : {l : BuildLent} {a : Answer} {s : Said} {graph su : List ℕ} {sf : List Float} → codeIn s ≡ saidOf a
     → build.Built l a graph su sf → Built l s graph su sf

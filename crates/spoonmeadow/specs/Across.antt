@@ -1,29 +1,22 @@
--- What an answer over the C boundary says, and that each call leaves what the rulebook says of what it was lent. Assumes nothing.
+-- What each call over the C boundary leaves is what the rulebook says of what it was lent. Assumes nothing.
 use mathlib.Core.Path.{_≡_}
 use mathlib.Core.List.{List}
 use Prim.Native.Nat.{ℕ}
 use lib.Ieee.{Float}
-use Rattle.rules.specs.Refusals.{Code, code}
 use Rattle.rules.specs.BuildCall.{BuildLent, BuildOutcome, buildRule}
-use Rattle.rules.specs.SearchCall.{SearchLent, SearchSaid, SearchOutcome, searchRule}
+use Rattle.rules.specs.SearchCall.{SearchLent, SearchOutcome, searchRule}
 use Rattle.rules.specs.DescentCall.{DescentLent, beginRule}
 use Rattle.rules.specs.RelayCall.{OpenLent, OpenOutcome, openRule, MoveLent, MoveOutcome, moveRule, CloseLent, CloseOutcome, closeRule}
 use Rattle.descent.specs.Descent.{left}
-use Rattle.spoonmeadow.specs.declared.Said.{Said}
-use Rattle.spoonmeadow.specs.declared.Found.{Found}
-
--- the number and the two places
-abbrev pub codeIn : Said → Code
-codeIn s = code (s .refusal) (s .first) (s .second)
+use Rattle.answers.specs.declared.Said.{Said}
+use Rattle.answers.specs.declared.Found.{Found}
+use Rattle.answers.specs.Answers.{codeIn, foundIn}
 
 abbrev pub buildLeft : Said → List ℕ → List ℕ → List Float → BuildOutcome
 buildLeft s graph su sf = record { said = codeIn s; graph = graph; scratch-u = su; scratch-f = sf }
 
 pub record Built (l : BuildLent) (r : Said) (graph su : List ℕ) (sf : List Float) : Type 0 where
   pub whole : buildLeft r graph su sf ≡ buildRule l
-
-abbrev pub foundIn : Found → SearchSaid
-foundIn f = record { code = code (f .refusal) (f .first) (f .second); m = f .m; takings = f .takings }
 
 abbrev pub foundLeft : Found → List ℕ → List ℕ → List ℕ → List Float → SearchOutcome
 foundLeft f nodes bits su sf =

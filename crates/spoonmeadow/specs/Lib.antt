@@ -1,2 +1,2 @@
--- The entries over the C boundary: what their answers say, and what each leaves.
+-- The entries over the C boundary: what each leaves.
 pub mod Across

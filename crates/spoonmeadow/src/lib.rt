@@ -1,7 +1,4 @@
 // The entries over the C boundary: each is thin over the proved entry and has its equation as its contract.
-ghost use mathlib.Core.Path.{_≡_};
-ghost use Rattle.rules.specs.Refusals.{code, codeOf, saidOf};
-ghost use Rattle.rules.specs.SearchCall.{searchSaid};
 ghost use Rattle.params.specs.Params.{params};
 ghost use Rattle.build.specs.Build.{lent as buildLent};
 ghost use Rattle.search.specs.Search.{lent as searchLent};
@@ -9,95 +6,10 @@ ghost use Rattle.descent.specs.Descent.{lent as descentLent};
 ghost use Rattle.relay_opening.specs.Opening.{lent as openLent};
 ghost use Rattle.relay_move.specs.Move.{lent as moveLent};
 ghost use Rattle.relay_close.specs.Close.{lent as closeLent};
-ghost use Rattle.spoonmeadow.specs.Across.{codeIn, foundIn, Built, Searched, Begun, Opened, Moved, Closed};
+ghost use Rattle.spoonmeadow.specs.Across.{Built, Searched, Begun, Opened, Moved, Closed};
+use answers::Found;
+use answers::Said;
 use params::SsgParams;
-use rules::Answer;
-use rules::Refusal;
-use rules::SearchAnswer;
-
-/// A refusal by its number and two places; all 0 where there is none.
-#[repr(C)]
-pub struct Said {
-    pub refusal: usize,
-    pub first: usize,
-    pub second: usize,
-}
-
-/// What a search says: its refusal, the count of results, and the count of nodes taken from the queue.
-#[repr(C)]
-pub struct Found {
-    pub refusal: usize,
-    pub first: usize,
-    pub second: usize,
-    pub m: usize,
-    pub takings: usize,
-}
-
-fn refused(refusal: usize, first: usize, second: usize) -> Said
-    ensures { λ r. ⌜ codeIn r ≡ code refusal first second ⌝ }
-{
-    Said {
-        refusal,
-        first,
-        second,
-    }
-}
-
-/// A refusal's number and places.
-fn of_refusal(r: Refusal) -> Said
-    ensures { λ s. ⌜ codeIn s ≡ codeOf r ⌝ }
-{
-    match r {
-        Refusal::Dimension => refused(1, 0, 0),
-        Refusal::Nodes => refused(2, 0, 0),
-        Refusal::Lanes => refused(3, 0, 0),
-        Refusal::Parameter => refused(4, 0, 0),
-        Refusal::Threshold => refused(5, 0, 0),
-        Refusal::Buffer => refused(6, 0, 0),
-        Refusal::Root(at) => refused(7, at, 0),
-        Refusal::Query => refused(8, 0, 0),
-        Refusal::Job(at) => refused(9, at, 0),
-        Refusal::Pair(i, j) => refused(10, i.0 as usize, j.0 as usize),
-        Refusal::Draws => refused(11, 0, 0),
-        Refusal::State => refused(12, 0, 0),
-        Refusal::Step(job) => refused(13, job, 0),
-    }
-}
-
-/// What the answer of build, begin, open, a move or a close says.
-fn of_answer(a: Answer) -> Said
-    ensures { λ s. ⌜ codeIn s ≡ saidOf a ⌝ }
-{
-    match a {
-        Answer::Done => refused(0, 0, 0),
-        Answer::Refused(r) => of_refusal(r),
-    }
-}
-
-/// What a search's answer says.
-fn of_search(a: SearchAnswer) -> Found
-    ensures { λ f. ⌜ foundIn f ≡ searchSaid a ⌝ }
-{
-    match a {
-        SearchAnswer::Found { m, takings } => Found {
-            refusal: 0,
-            first: 0,
-            second: 0,
-            m,
-            takings,
-        },
-        SearchAnswer::Refused(r) => {
-            let s = of_refusal(r);
-            Found {
-                refusal: s.refusal,
-                first: s.first,
-                second: s.second,
-                m: 0,
-                takings: 0,
-            }
-        }
-    }
-}
 
 /// `build` for C: the parameters one by one.
 #[no_mangle]
@@ -122,7 +34,7 @@ pub extern "C" fn spoonmeadow_build(
         neighbor_neighbor_size,
     };
     let a = build::build(params, dimension, n, lanes, graph, scratch_u, scratch_f);
-    of_answer(a)
+    answers::of_answer(a)
 }
 
 /// `search` for C.
@@ -157,7 +69,7 @@ pub extern "C" fn spoonmeadow_search(
         scratch_u,
         scratch_f,
     );
-    of_search(a)
+    answers::of_search(a)
 }
 
 /// `begin` for C.
@@ -188,7 +100,7 @@ pub extern "C" fn spoonmeadow_begin(
         scratch_u,
         scratch_f,
     );
-    of_answer(a)
+    answers::of_answer(a)
 }
 
 /// `open` for C.
@@ -221,7 +133,7 @@ pub extern "C" fn spoonmeadow_open(
         scratch_u,
         scratch_f,
     );
-    of_answer(a)
+    answers::of_answer(a)
 }
 
 /// `move_job` for C.
@@ -236,7 +148,7 @@ pub extern "C" fn spoonmeadow_move_job(
     ensures { λ r. ⌜ Moved (moveLent n k job (now («state_u» .entry)) (now («state_f» .entry))) r (now («state_u» .exit)) (now («state_f» .exit)) ⌝ }
 {
     let a = relay_move::move_job(n, k, job, state_u, state_f);
-    of_answer(a)
+    answers::of_answer(a)
 }
 
 /// `close` for C.
@@ -253,5 +165,5 @@ pub extern "C" fn spoonmeadow_close(
     ensures { λ r. ⌜ Closed (closeLent n k (now («state_u» .entry)) (now («state_f» .entry)) (now (nodes .entry)) (now (distances .entry)) (now (reports .entry))) r (now (nodes .exit)) (now (distances .exit)) (now (reports .exit)) ⌝ }
 {
     let a = relay_close::close(n, k, state_u, state_f, nodes, distances, reports);
-    of_answer(a)
+    answers::of_answer(a)
 }

@@ -3,8 +3,8 @@ use mathlib.Core.Path.{sym, ap, _∙_}
 use Rattle.rules.specs.Refusals.{Code}
 use Rattle.rules.specs.SearchCall.{searchSaid}
 use borrow.Author.Needs.{needs}
-use Rattle.spoonmeadow.proofs.of_search.Statement.{statement}
-use Rattle.spoonmeadow.proofs.of_search.Tie as tie
+use Rattle.answers.proofs.of_search.Statement.{statement}
+use Rattle.answers.proofs.of_search.Tie as tie
 
 enum-known-a : tie.Need-enum-known-a
 enum-known-a c = search needs

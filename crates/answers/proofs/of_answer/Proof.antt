@@ -2,8 +2,8 @@
 use mathlib.Core.Path.{sym, ap, _∙_}
 use Rattle.rules.specs.Refusals.{saidOf}
 use borrow.Author.Needs.{needs}
-use Rattle.spoonmeadow.proofs.of_answer.Statement.{statement}
-use Rattle.spoonmeadow.proofs.of_answer.Tie as tie
+use Rattle.answers.proofs.of_answer.Statement.{statement}
+use Rattle.answers.proofs.of_answer.Tie as tie
 
 enum-told : tie.Need-enum-told
 enum-told c = search needs

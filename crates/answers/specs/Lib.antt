@@ -1,0 +1,2 @@
+-- What answers say over the C boundary.
+pub mod Answers
