@@ -28,7 +28,7 @@ length-members : (xs : List ℕ) → length xs ≤ 64 → length (memberWords xs
 unfolding memberWords
 length-members xs h = ap suc (length-padded most 0 xs h)
 
-members-back : (xs ys : List ℕ) → length xs ≤ 64 → membersIn (memberWords xs ++ ys) ≡ xs
+pub members-back : (xs ys : List ℕ) → length xs ≤ 64 → membersIn (memberWords xs ++ ys) ≡ xs
 unfolding memberWords membersIn padded
 members-back xs ys h =
     ap (take (length xs)) (take-at (xs ++ replicate (64 - length xs) 0) ys 64 (long xs h))

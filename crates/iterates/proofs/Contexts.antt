@@ -18,24 +18,13 @@ use Rattle.lists.specs.All.{All}
 use Rattle.encoded.proofs.Same.{both}
 use Rattle.zeros.specs.Zeros.{allBelow}
 use Rattle.zeros.proofs.Laws.{all-at}
+use Rattle.members.proofs.Laws.{members-front, area-in, each-alike}
 use Rattle.passes.specs.Passes.{Below, Members, Contexted, contextsIn, ManyContexted}
 use Rattle.descent_state.specs.State.{Sized, memberTest}
 use Rattle.descent_state.proofs.Members.{too-long}
 use Rattle.descent_state.proofs.Contexts.{listTest}
 
--- a part of a part
-pub area-in : {A : Type 0} (a m c : ℕ) (xs : List A) → a + m ≤ c → take m (drop a (take c xs)) ≡ take m (drop a xs)
-area-in zero m c xs l = take-take m c xs (omega arith)
-area-in (suc a) m zero xs l = absurd (omega arith)
-area-in (suc a) m (suc c) [] l = refl
-area-in (suc a) m (suc c) (x ∷ xs) l = area-in a m c xs (omega arith)
-
 -- ---- a context is told by its 260 words
-
-members-front : (xs : List ℕ) → membersIn (take 65 xs) ≡ membersIn xs
-unfolding membersIn
-members-front [] = refl
-members-front (x ∷ xs) = ap (take x) (take-take 64 64 xs (omega arith))
 
 -- the list at a of 260 words
 members-at : (a : ℕ) (xs ys : List ℕ) → a + 65 ≤ 260 → take 260 xs ≡ take 260 ys → membersIn (drop a xs) ≡ membersIn (drop a ys)
@@ -48,13 +37,6 @@ pub same-context : (xs ys : List ℕ) → take 260 xs ≡ take 260 ys → contex
 unfolding contextIn
 same-context xs ys e =
     rw (members-at 0 xs ys (omega arith) e, members-at 65 xs ys (omega arith) e, members-at 130 xs ys (omega arith) e, members-at 195 xs ys (omega arith) e)
-
-pub same-contexts : (f g : ℕ → Context) (n : ℕ) → ((i : ℕ) → i < n → f i ≡ g i) → each (λ (i : ℕ). f i ∷ []) n ≡ each (λ (i : ℕ). g i ∷ []) n
-unfolding each
-same-contexts f g zero h = refl
-same-contexts f g (suc n) h =
-    ap (λ (l : List Context). l ++ (f n ∷ [])) (same-contexts f g n (λ (i : ℕ) l. h i (omega arith)))
-    ∙ ap (λ (c : Context). each (λ (i : ℕ). g i ∷ []) n ++ (c ∷ [])) (h n (omega arith))
 
 -- ---- a list that the test passes
 
@@ -89,8 +71,8 @@ module _ (n base : ℕ) (us ws : List ℕ) (e : take (260 * n) ws ≡ take (260 
   pub contexts-copied : contextsIn n ws ≡ each (λ (i : ℕ). contextIn (drop (base + 260 * i) us) ∷ []) n
   unfolding contextsIn
   contexts-copied =
-      same-contexts (λ (i : ℕ). contextIn (drop (260 * i) ws)) (λ (i : ℕ). contextIn (drop (base + 260 * i) us)) n
-      (λ (i : ℕ) (h : i < n). same-context (drop (260 * i) ws) (drop (base + 260 * i) us) (area-of (260 * i) 260 (omega arith)))
+      each-alike (λ (i : ℕ). contextIn (drop (260 * i) ws) ∷ []) (λ (i : ℕ). contextIn (drop (base + 260 * i) us) ∷ []) n
+      (λ (i : ℕ) (h : i < n). ap (λ (c : Context). c ∷ []) (same-context (drop (260 * i) ws) (drop (base + 260 * i) us) (area-of (260 * i) 260 (omega arith))))
 
   members-of : (i j m a : ℕ) → i < n → j < 4 → m ≡ 4 * i + j → a ≡ 65 * j → Members n (drop a (drop (260 * i) ws))
   members-of i j m a h l em ea =

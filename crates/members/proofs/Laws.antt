@@ -1,14 +1,14 @@
 -- A context list in its 65 words. Assumes nothing.
-use mathlib.Core.Path.{_≡_, sym, ap, _∙_}
-use mathlib.Core.List.{List, _∷_, _++_, append-nil}
-use Prim.Native.Nat.{ℕ, zero, suc, _+_, _-_, _≤_}
+use mathlib.Core.Path.{_≡_, refl, sym, ap, _∙_}
+use mathlib.Core.List.{List, [], _∷_, _++_, append-nil}
+use Prim.Native.Nat.{ℕ, zero, suc, _+_, _-_, _≤_, _<_}
 use native.Mathlib.Omega.{arith}
 use lib.ListN.{length, take, drop, set, replicate, length-replicate, length-append, length-set, length-drop}
-use lib.Seq.{take-length, length-take-le}
+use lib.Seq.{take-length, take-take, length-take-le}
 use borrow.Rule.Slice.PartMut.{putMid, same-len-mid}
-use Rattle.rules.specs.Loops.{over}
+use Rattle.rules.specs.Loops.{turns, each, over}
 use Rattle.rules.specs.Places.{padded}
-use Rattle.rules.specs.DescentPlaces.{memberWords}
+use Rattle.rules.specs.DescentPlaces.{memberWords, membersIn}
 
 pub length-memberWords : (xs : List ℕ) → length xs ≤ 64 → length (memberWords xs) ≡ 65
 unfolding memberWords padded
@@ -57,3 +57,29 @@ put-zeroed src dst zs ys l z f =
     let w : length (set zs 0 n) - 1 ≡ 64 = omega arith in
     ap (λ (l : List ℕ). putMid 1 (length (set zs 0 n) - 1) (set l 0 n) ys) z
     ∙ put src dst ys (length (set zs 0 n) - 1) l w (f ∙ ap (λ (l : List ℕ). over n src (take (length (set zs 0 n) - 1) (drop 1 (set l 0 n)))) z)
+
+-- a list is told by its 65 words
+pub members-front : (xs : List ℕ) → membersIn (take 65 xs) ≡ membersIn xs
+unfolding membersIn
+members-front [] = refl
+members-front (x ∷ xs) = ap (take x) (take-take 64 64 xs (omega arith))
+
+-- a part of a part
+pub area-in : {A : Type 0} (a m c : ℕ) (xs : List A) → a + m ≤ c → take m (drop a (take c xs)) ≡ take m (drop a xs)
+area-in zero m c xs l = take-take m c xs (omega arith)
+area-in (suc a) m zero xs l = absurd (omega arith)
+area-in (suc a) m (suc c) [] l = refl
+area-in (suc a) m (suc c) (x ∷ xs) l = area-in a m c xs (omega arith)
+
+-- ---- loops over n nodes that do the same for each node
+
+pub each-alike : {A : Type 0} (f g : ℕ → List A) (n : ℕ) → ((i : ℕ) → i < n → f i ≡ g i) → each f n ≡ each g n
+unfolding each
+each-alike f g zero h = refl
+each-alike {A} f g (suc n) h =
+    ap (λ (l : List A). l ++ f n) (each-alike f g n (λ (i : ℕ) l. h i (omega arith))) ∙ ap (λ (l : List A). each g n ++ l) (h n (omega arith))
+
+pub turns-alike : {S : Type 0} (f g : ℕ → S → S) (n : ℕ) → ((i : ℕ) → i < n → (s : S) → f i s ≡ g i s) → (s : S) → turns f n s ≡ turns g n s
+unfolding turns
+turns-alike f g zero h s = refl
+turns-alike f g (suc n) h s = ap (f n) (turns-alike f g n (λ (i : ℕ) l. h i (omega arith)) s) ∙ h n (omega arith) (turns g n s)

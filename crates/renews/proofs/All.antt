@@ -23,10 +23,10 @@ use Rattle.renews.specs.Renews.{Source, NewPut, OldPut, renewedTo, Renew
 -- ---- a list that grows at its end
 
 module _ (xs : List (List ℕ)) (i : ℕ) (long : length xs ≡ i) (y : List ℕ) where
-  grown-low : (j : ℕ) → j < i → getD (xs ++ (y ∷ [])) j [] ≡ getD xs j []
+  pub grown-low : (j : ℕ) → j < i → getD (xs ++ (y ∷ [])) j [] ≡ getD xs j []
   grown-low j h = List·getD-append xs (y ∷ []) [] j (omega arith)
 
-  grown-last : getD (xs ++ (y ∷ [])) i [] ≡ y
+  pub grown-last : getD (xs ++ (y ∷ [])) i [] ≡ y
   grown-last = getD-at xs y [] [] i long
 
   grown-long : length (xs ++ (y ∷ [])) ≡ suc i

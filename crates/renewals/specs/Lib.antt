@@ -1,0 +1,2 @@
+-- What renewing every context counts on, and what it leaves.
+pub mod Renewals
