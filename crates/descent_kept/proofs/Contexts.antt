@@ -7,10 +7,10 @@ use native.Mathlib.Nat.{mod-lt}
 use native.Mathlib.Omega.{arith}
 use lib.Dec.{eqb, ltb}
 use lib.ListN.{length, take, drop, getD, set, replicate, length-take, length-drop}
-use borrow.Author.Tests.{ltb-true, ltb-false}
+use borrow.Author.Tests.{ltb-true, ltb-false, eqb-true}
 use Rattle.rules.specs.declared.Neighbor.{Neighbor}
 use Rattle.rules.specs.Loops.{each}
-use Rattle.rules.specs.Lists.{nodeOf}
+use Rattle.rules.specs.Lists.{nodeOf, nodesOf}
 use Rattle.rules.specs.Offers.{entryFormed, entriesFormed, ascending, listFormed}
 use Rattle.rules.specs.Descent.{Context, listAt, drawn, drawsFrom, beginContext, isVisited, newOf, oldOf, swap, shuffleFrom, shuffle, keptNew, keptBack, Renewed, renew, renewAll, membersBack, reversedOld, reversedNew, contextOf}
 use Rattle.lists.specs.All.{All}
@@ -123,6 +123,21 @@ module _ (n : ℕ) (some : 0 < n) where
   entries-of-kept : (l : List Neighbor) → Kept n l → entriesFormed n l ≡ true
   unfolding listFormed
   entries-of-kept l K = both (ascending l) (entriesFormed n l) (K .formed) .1
+
+  -- no node of a list is above n
+  pub none-above : (l : List Neighbor) → Kept n l → All (λ (v : ℕ). v ≤ n) (nodesOf l)
+  unfolding nodesOf entriesFormed
+  none-above l K = go l (entries-of-kept l K)
+    where
+      one : (e : Neighbor) → entryFormed n e ≡ true → (b : Bool) → eqb (nodeOf e) n ≡ b → nodeOf e ≤ n
+      one e h true q = let a = eqb-true (nodeOf e) n q in omega arith
+      one e h false q = let a = filled-below e h q in omega arith
+
+      go : (l : List Neighbor) → entriesFormed n l ≡ true → All (λ (v : ℕ). v ≤ n) (nodesOf l)
+      go [] h = tt
+      go (e ∷ es) h =
+          let b = both (entryFormed n e) (entriesFormed n es) h in
+          (one e (b .0) (eqb (nodeOf e) n) refl, go es (b .1))
 
   pub record Renewing (r : Renewed) : Type 0 where
     pub news : All Good (r .news)

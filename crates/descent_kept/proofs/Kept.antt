@@ -103,6 +103,19 @@ unvisit-long n news visited =
         units [] = tt
         units (y ∷ ys) = (tt, units ys)
 
+module _ (d : Between) (n k : ℕ) (some : 1 ≤ k) (far : (u v : ℕ) → Holdable (d u v)) (near : (u v : ℕ) → fit (d u v) ≡ true) where
+  -- all pairs of a well-formed descent's contexts have met
+  pub all-met : (x : Descent) → Formed n k x → Meeting d n k some far near (meetAll d n k (x .contexts) (record { lists = x .lists; visited = x .visited; cost = 0 }))
+  all-met x F =
+      let sz = F .fitting .nodes in
+      let L : Lists n k (x .lists) =
+      record {
+        nodes = F .fitting .nodes;
+        long = λ (w : ℕ) (wn : w < n). all-at (λ (l : List Neighbor). length l ≡ k) (x .lists) w [] (F .fitting .rows) (omega arith);
+        kept = F .lists;
+      } in
+      all-meet d n k some far near (x .contexts) (record { lists = x .lists; visited = x .visited; cost = 0 }) (F .members) (record { lists = L; pairs = F .fitting .pairs })
+
 module _ (d : Between) (n k s : ℕ) (nodes : 0 < n) (some : 1 ≤ k) (most : k ≤ 64) (few : s ≤ 64) (far : (u v : ℕ) → Holdable (d u v)) (near : (u v : ℕ) → fit (d u v) ≡ true) where
   renewed-formed : (draws : List ℕ) (m : Met) → Meeting d n k some far near m → Formed n k (renewed draws n s m .descent)
   unfolding renewed
@@ -127,14 +140,4 @@ module _ (d : Between) (n k s : ℕ) (nodes : 0 < n) (some : 1 ≤ k) (most : k 
 
   pub iterated-formed : (draws : List ℕ) (x : Descent) → Formed n k x → Formed n k (iterated d draws n k s x .descent)
   unfolding iterated
-  iterated-formed draws x F =
-      let sz = F .fitting .nodes in
-      let m₀ : Met = record { lists = x .lists; visited = x .visited; cost = 0 } in
-      let L : Lists n k (x .lists) =
-      record {
-        nodes = F .fitting .nodes;
-        long = λ (w : ℕ) (wn : w < n). all-at (λ (l : List Neighbor). length l ≡ k) (x .lists) w [] (F .fitting .rows) (omega arith);
-        kept = F .lists;
-      } in
-      renewed-formed draws (meetAll d n k (x .contexts) m₀)
-      (all-meet d n k some far near (x .contexts) m₀ (F .members) (record { lists = L; pairs = F .fitting .pairs }))
+  iterated-formed draws x F = renewed-formed draws (meetAll d n k (x .contexts) (record { lists = x .lists; visited = x .visited; cost = 0 })) (all-met d n k some far near x F)

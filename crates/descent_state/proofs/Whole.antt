@@ -42,7 +42,7 @@ parts {A} k m xs =
     ap (λ (l : List A). take (m * k) xs ++ l) (append-nil (take k (part k m xs)) ∙ take-take k k (drop (m * k) xs) (omega arith))
     ∙ sym (ap (λ (j : ℕ). take j xs) (suc-mul m k) ∙ take-add (m * k) k xs)
 
-length-part : {A : Type 0} (k m n : ℕ) (xs : List A) → m < n → n * k ≤ length xs → k ≤ length (part k m xs)
+pub length-part : {A : Type 0} (k m n : ℕ) (xs : List A) → m < n → n * k ≤ length xs → k ≤ length (part k m xs)
 unfolding part
 length-part k m n xs l h =
     let r : suc m * k ≤ n * k = mul-le-mul-right k l in

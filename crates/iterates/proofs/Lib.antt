@@ -1,3 +1,4 @@
--- `Contexts`: the contexts of a state, copied. `Meeting`: the passes over them.
+-- `Contexts`: contexts copied. `Meeting`: the passes over a well-formed state. `Iterating`: the whole iteration.
 pub mod Contexts
 pub mod Meeting
+pub mod Iterating
