@@ -64,6 +64,7 @@ enum {
 #define SPOONMEADOW_TAUGHT_SCRATCH(n) (512 * (size_t)(n) + 4096) /* of a descent and of opening a relay */
 #define SPOONMEADOW_LISTS_LENGTH(n, k) ((size_t)(n) * (size_t)(k))
 #define SPOONMEADOW_BEGIN_DRAWS(n, s) (2 * (size_t)(n) * (size_t)(s))
+#define SPOONMEADOW_ITERATE_DRAWS(n, k) (2 * (size_t)(n) * (size_t)(k))
 #define SPOONMEADOW_DESCENT_STATE_U(n, k) ((size_t)(n) * (size_t)(k) + 260 * (size_t)(n) + ((size_t)(n) * (size_t)(n) + 31) / 32)
 #define SPOONMEADOW_DESCENT_STATE_F(n, k) ((size_t)(n) * (size_t)(k))
 #define SPOONMEADOW_RELAY_STATE_U(n, k) ((size_t)(n) * ((size_t)(k) + 65) + 1024)
@@ -86,6 +87,15 @@ typedef struct {
     size_t m;
     size_t takings;
 } spoonmeadow_found;
+
+/* What an iteration says: a refusal with its places, or the cost and the total of new. */
+typedef struct {
+    size_t refusal;
+    size_t first;
+    size_t second;
+    size_t cost;
+    size_t total;
+} spoonmeadow_iterated;
 
 /* Teaches a game of n counters: writes its graph, index_size places a counter, the nodes of a row and then n in every place left.
    Refusals: 1, 2, 3, 4 (init_k, index_size, neighbor_neighbor_size), 5, 6, and 10 at the first unfit pair i < j, i rising and then j.
@@ -132,6 +142,25 @@ spoonmeadow_found spoonmeadow_search(
    state_f       exactly SPOONMEADOW_DESCENT_STATE_F(n, k)
    scratch_u, scratch_f        each at least SPOONMEADOW_TAUGHT_SCRATCH(n) */
 spoonmeadow_said spoonmeadow_begin(
+    size_t dimension, size_t n,
+    const float *lanes, size_t lanes_length,
+    size_t k, size_t s,
+    const uint32_t *draws, size_t draws_length,
+    uint32_t *state_u, size_t state_u_length,
+    float *state_f, size_t state_f_length,
+    uint32_t *scratch_u, size_t scratch_u_length,
+    float *scratch_f, size_t scratch_f_length);
+
+/* Iterates a descent once, on a state that spoonmeadow_begin or an iteration left: pairs of each node's context meet, and the cost counts each
+   update of unequal nodes; then every context gets its new, old and reversed lists, and total counts the new found, before lists longer than s are shortened.
+   Refusals: 1, 2, 3, 4 (k 1 to 64, s 1 to k), 6, 10 at the first unfit pair, 11, 12.
+
+   lanes         exactly SPOONMEADOW_LANES_LENGTH(n, dimension), node by node
+   draws         at least SPOONMEADOW_ITERATE_DRAWS(n, k)
+   state_u       exactly SPOONMEADOW_DESCENT_STATE_U(n, k)
+   state_f       exactly SPOONMEADOW_DESCENT_STATE_F(n, k)
+   scratch_u, scratch_f        each at least SPOONMEADOW_TAUGHT_SCRATCH(n) */
+spoonmeadow_iterated spoonmeadow_iterate(
     size_t dimension, size_t n,
     const float *lanes, size_t lanes_length,
     size_t k, size_t s,

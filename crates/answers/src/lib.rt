@@ -2,8 +2,10 @@
 ghost use mathlib.Core.Path.{_≡_};
 ghost use Rattle.rules.specs.Refusals.{code, codeOf, saidOf};
 ghost use Rattle.rules.specs.SearchCall.{searchSaid};
-ghost use Rattle.answers.specs.Answers.{codeIn, foundIn};
+ghost use Rattle.rules.specs.DescentCall.{iterateSaid};
+ghost use Rattle.answers.specs.Answers.{codeIn, foundIn, iteratedIn};
 use rules::Answer;
+use rules::IterateAnswer;
 use rules::Refusal;
 use rules::SearchAnswer;
 
@@ -23,6 +25,16 @@ pub struct Found {
     pub second: usize,
     pub m: usize,
     pub takings: usize,
+}
+
+/// What an iteration says: its refusal, the cost, and the total of new.
+#[repr(C)]
+pub struct Iterated {
+    pub refusal: usize,
+    pub first: usize,
+    pub second: usize,
+    pub cost: usize,
+    pub total: usize,
 }
 
 fn refused(refusal: usize, first: usize, second: usize) -> Said
@@ -86,6 +98,31 @@ pub fn of_search(a: SearchAnswer) -> Found
                 second: s.second,
                 m: 0,
                 takings: 0,
+            }
+        }
+    }
+}
+
+/// What an iteration's answer says.
+pub fn of_iterate(a: IterateAnswer) -> Iterated
+    ensures { λ i. ⌜ iteratedIn i ≡ iterateSaid a ⌝ }
+{
+    match a {
+        IterateAnswer::Iterated { cost, new } => Iterated {
+            refusal: 0,
+            first: 0,
+            second: 0,
+            cost,
+            total: new,
+        },
+        IterateAnswer::Refused(r) => {
+            let s = of_refusal(r);
+            Iterated {
+                refusal: s.refusal,
+                first: s.first,
+                second: s.second,
+                cost: 0,
+                total: 0,
             }
         }
     }

@@ -5,21 +5,24 @@ use Prim.Native.Nat.{ℕ}
 use lib.Ieee.{Float}
 use Rattle.rules.specs.declared.Answer.{Answer}
 use Rattle.rules.specs.declared.SearchAnswer.{SearchAnswer}
+use Rattle.rules.specs.declared.IterateAnswer.{IterateAnswer}
 use Rattle.rules.specs.Refusals.{Code, saidOf}
 use Rattle.rules.specs.BuildCall.{BuildLent}
 use Rattle.rules.specs.SearchCall.{SearchLent, SearchSaid, searchSaid}
-use Rattle.rules.specs.DescentCall.{DescentLent}
+use Rattle.rules.specs.DescentCall.{DescentLent, IterateSaid, iterateSaid}
 use Rattle.rules.specs.RelayCall.{OpenLent, MoveLent, CloseLent}
 use Rattle.build.specs.Build as build
 use Rattle.search.specs.Search as search
 use Rattle.descent.specs.Descent as descent
+use Rattle.iterate.specs.Iterate as iterate
 use Rattle.relay_opening.specs.Opening as opening
 use Rattle.relay_move.specs.Move as move-job
 use Rattle.relay_close.specs.Close as close
 use Rattle.answers.specs.declared.Said.{Said}
 use Rattle.answers.specs.declared.Found.{Found}
-use Rattle.answers.specs.Answers.{codeIn, foundIn}
-use Rattle.spoonmeadow.specs.Across.{Built, Searched, Begun, Opened, Moved, Closed}
+use Rattle.answers.specs.declared.Iterated.{Iterated}
+use Rattle.answers.specs.Answers.{codeIn, foundIn, iteratedIn}
+use Rattle.spoonmeadow.specs.Across.{Built, Searched, Begun, IteratedOnce, Opened, Moved, Closed}
 
 pub built : {l : BuildLent} {a : Answer} {s : Said} {graph su : List ℕ} {sf : List Float} → codeIn s ≡ saidOf a
     → build.Built l a graph su sf → Built l s graph su sf
@@ -39,6 +42,11 @@ pub begun : {l : DescentLent} {a : Answer} {s : Said} {us : List ℕ} {fs : List
     → descent.BegunAll l a us fs su sf → Begun l s us fs su sf
 begun {l} {a} {s} {us} {fs} {su} {sf} e b =
     record { whole = ap (λ (said : Code). record { said = said; left = descent.left us fs su sf }) e ∙ b .whole }
+
+pub iterated : {l : DescentLent} {a : IterateAnswer} {i : Iterated} {us : List ℕ} {fs : List Float} {su : List ℕ} {sf : List Float} → iteratedIn i ≡ iterateSaid a
+    → iterate.IteratedAll l a us fs su sf → IteratedOnce l i us fs su sf
+iterated {l} {a} {i} {us} {fs} {su} {sf} e b =
+    record { whole = ap (λ (said : IterateSaid). record { said = said; left = descent.left us fs su sf }) e ∙ b .whole }
 
 pub opened : {l : OpenLent} {a : Answer} {s : Said} {us : List ℕ} {fs : List Float} {su : List ℕ} {sf : List Float} → codeIn s ≡ saidOf a
     → opening.Opened l a us fs su sf → Opened l s us fs su sf

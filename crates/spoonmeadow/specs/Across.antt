@@ -5,12 +5,13 @@ use Prim.Native.Nat.{ℕ}
 use lib.Ieee.{Float}
 use Rattle.rules.specs.BuildCall.{BuildLent, BuildOutcome, buildRule}
 use Rattle.rules.specs.SearchCall.{SearchLent, SearchOutcome, searchRule}
-use Rattle.rules.specs.DescentCall.{DescentLent, beginRule}
+use Rattle.rules.specs.DescentCall.{DescentLent, IterateOutcome, beginRule, iterateRule}
 use Rattle.rules.specs.RelayCall.{OpenLent, OpenOutcome, openRule, MoveLent, MoveOutcome, moveRule, CloseLent, CloseOutcome, closeRule}
 use Rattle.descent.specs.Descent.{left}
 use Rattle.answers.specs.declared.Said.{Said}
 use Rattle.answers.specs.declared.Found.{Found}
-use Rattle.answers.specs.Answers.{codeIn, foundIn}
+use Rattle.answers.specs.declared.Iterated.{Iterated}
+use Rattle.answers.specs.Answers.{codeIn, foundIn, iteratedIn}
 
 abbrev pub buildLeft : Said → List ℕ → List ℕ → List Float → BuildOutcome
 buildLeft s graph su sf = record { said = codeIn s; graph = graph; scratch-u = su; scratch-f = sf }
@@ -27,6 +28,12 @@ pub record Searched (l : SearchLent) (r : Found) (nodes bits su : List ℕ) (sf 
 
 pub record Begun (l : DescentLent) (r : Said) (us : List ℕ) (fs : List Float) (su : List ℕ) (sf : List Float) : Type 0 where
   pub whole : record { said = codeIn r; left = left us fs su sf } ≡ beginRule l
+
+abbrev pub iterateLeft : Iterated → List ℕ → List Float → List ℕ → List Float → IterateOutcome
+iterateLeft i us fs su sf = record { said = iteratedIn i; left = left us fs su sf }
+
+pub record IteratedOnce (l : DescentLent) (r : Iterated) (us : List ℕ) (fs : List Float) (su : List ℕ) (sf : List Float) : Type 0 where
+  pub whole : iterateLeft r us fs su sf ≡ iterateRule l
 
 abbrev pub openLeft : Said → List ℕ → List Float → List ℕ → List Float → OpenOutcome
 openLeft s us fs su sf = record { said = codeIn s; state-u = us; state-f = fs; scratch-u = su; scratch-f = sf }

@@ -6,8 +6,9 @@ ghost use Rattle.descent.specs.Descent.{lent as descentLent};
 ghost use Rattle.relay_opening.specs.Opening.{lent as openLent};
 ghost use Rattle.relay_move.specs.Move.{lent as moveLent};
 ghost use Rattle.relay_close.specs.Close.{lent as closeLent};
-ghost use Rattle.spoonmeadow.specs.Across.{Built, Searched, Begun, Opened, Moved, Closed};
+ghost use Rattle.spoonmeadow.specs.Across.{Built, Searched, Begun, IteratedOnce, Opened, Moved, Closed};
 use answers::Found;
+use answers::Iterated;
 use answers::Said;
 use params::SsgParams;
 
@@ -101,6 +102,37 @@ pub extern "C" fn spoonmeadow_begin(
         scratch_f,
     );
     answers::of_answer(a)
+}
+
+/// `iterate` for C.
+#[no_mangle]
+pub extern "C" fn spoonmeadow_iterate(
+    dimension: usize,
+    n: usize,
+    lanes: &[f32],
+    k: usize,
+    s: usize,
+    draws: &[u32],
+    state_u: &mut [u32],
+    state_f: &mut [f32],
+    scratch_u: &mut [u32],
+    scratch_f: &mut [f32],
+) -> Iterated
+    ensures { λ r. ⌜ IteratedOnce (descentLent dimension n (now (lanes .entry)) k s (now (draws .entry)) (now («state_u» .entry)) (now («state_f» .entry)) (now («scratch_u» .entry)) (now («scratch_f» .entry))) r (now («state_u» .exit)) (now («state_f» .exit)) (now («scratch_u» .exit)) (now («scratch_f» .exit)) ⌝ }
+{
+    let a = iterate::iterate(
+        dimension,
+        n,
+        lanes,
+        k,
+        s,
+        draws,
+        state_u,
+        state_f,
+        scratch_u,
+        scratch_f,
+    );
+    answers::of_iterate(a)
 }
 
 /// `open` for C.
