@@ -3,6 +3,7 @@
 use crate::core::metrics;
 use crate::core::neighbor::Neighbor;
 use crate::core::node::{FloatElement, IdxType, Node};
+use crate::counted; // local: takes a count unless a bench measures
 use crate::local::branches; // local: counts of seldom-met branches
 use crate::local::fixedbitset::FixedBitSet; // local: the crate fixedbitset
 use crate::local::rand; // stand-in (c): the caller's draws under the crate's name
@@ -141,12 +142,12 @@ impl<'a, E: FloatElement, T: IdxType> NNDescentHandler<'a, E, T> {
                 )| {
                     let mut flags = FixedBitSet::with_capacity(length * length);
                     // local: counted
-                    branches::context(
+                    counted!(branches::context(
                         nn_new_neighbors,
                         nn_old_neighbors,
                         reversed_new_neighbors,
                         reversed_old_neighbors,
-                    );
+                    ));
                     let mut ccc: usize = 0;
                     for j in 0..nn_new_neighbors.len() {
                         for k in j..nn_new_neighbors.len() {
@@ -171,7 +172,7 @@ impl<'a, E: FloatElement, T: IdxType> NNDescentHandler<'a, E, T> {
                     for j in 0..reversed_new_neighbors.len() {
                         for k in j..reversed_new_neighbors.len() {
                             if reversed_new_neighbors[j] >= reversed_new_neighbors[k] {
-                                branches::reversed_pair_skipped(j, k, reversed_new_neighbors); // local: counted
+                                counted!(branches::reversed_pair_skipped(j, k, reversed_new_neighbors)); // local: counted
                                 continue;
                             }
                             if self.update(
@@ -304,7 +305,7 @@ impl<'a, E: FloatElement, T: IdxType> NNDescentHandler<'a, E, T> {
                 if nn_new_neighbors.len() > self.s {
                     let mut rng = rand::thread_rng();
                     nn_new_neighbors.shuffle(&mut rng);
-                    branches::new_list_cut(&nn_new_neighbors, &graph_item, self.s); // local: counted
+                    counted!(branches::new_list_cut(&nn_new_neighbors, &graph_item, self.s)); // local: counted
                     nn_new_neighbors = nn_new_neighbors[self.s..].to_vec();
                 }
 
@@ -364,12 +365,12 @@ impl<'a, E: FloatElement, T: IdxType> NNDescentHandler<'a, E, T> {
         (0..self.nodes.len()).into_par_iter().for_each(|i| {
             let mut rng = rand::thread_rng();
             if reversed_old_neighbors[i].lock().unwrap().len() > self.s {
-                branches::met("descent reversed-old list cut"); // local: counted
+                counted!(branches::met("descent reversed-old list cut")); // local: counted
                 reversed_old_neighbors[i].lock().unwrap().shuffle(&mut rng);
                 reversed_old_neighbors[i].lock().unwrap().resize(self.s, 0);
             }
             if reversed_new_neighbors[i].lock().unwrap().len() > self.s {
-                branches::met("descent reversed-new list cut"); // local: counted
+                counted!(branches::met("descent reversed-new list cut")); // local: counted
                 reversed_new_neighbors[i].lock().unwrap().shuffle(&mut rng);
                 reversed_new_neighbors[i].lock().unwrap().resize(self.s, 0);
             }
@@ -421,7 +422,7 @@ impl<'a, E: FloatElement, T: IdxType> NNDescentHandler<'a, E, T> {
         dist: E,
         my_graph: &[Arc<Mutex<BinaryHeap<Neighbor<E, usize>>>>],
     ) -> bool {
-        branches::look(&my_graph[me].lock().unwrap(), dist, self.k); // local: counted
+        counted!(branches::look(&my_graph[me].lock().unwrap(), dist, self.k)); // local: counted
         dist > my_graph[me].lock().unwrap().peek().unwrap().distance()
     }
 
@@ -433,7 +434,7 @@ impl<'a, E: FloatElement, T: IdxType> NNDescentHandler<'a, E, T> {
         dist: E,
         my_graph: &[Arc<Mutex<BinaryHeap<Neighbor<E, usize>>>>],
     ) {
-        branches::push(&my_graph[me].lock().unwrap(), candidate); // local: counted
+        counted!(branches::push(&my_graph[me].lock().unwrap(), candidate)); // local: counted
         my_graph[me]
             .lock()
             .unwrap()

@@ -6,6 +6,7 @@ use crate::core::neighbor;
 use crate::core::node;
 use crate::index::ssg_params::SSGParams;
 use crate::vec_iter;
+use crate::counted; // local: takes a count unless a bench measures
 use crate::local::branches; // local: counts of seldom-met branches
 use crate::local::fixedbitset::FixedBitSet; // local: the crate fixedbitset
 use crate::local::rayon::prelude::*; // local: the crate rayon
@@ -116,7 +117,7 @@ impl<E: node::FloatElement, T: node::IdxType> SSGIndex<E, T> {
                 let dist = self.nodes[q].metric(&self.nodes[*nn_id], self.mt).unwrap();
                 expand_neighbors_tmp.push(neighbor::Neighbor::new(*nn_id, dist));
                 if expand_neighbors_tmp.len() >= self.neighbor_neighbor_size {
-                    branches::met("step two limit met"); // local: counted
+                    counted!(branches::met("step two limit met")); // local: counted
                     return;
                 }
             }
@@ -137,11 +138,11 @@ impl<E: node::FloatElement, T: node::IdxType> SSGIndex<E, T> {
                 pruned_graph_tmp,
             );
         });
-        self.rows_pruned = pruned_graph_tmp.to_vec(); // local: kept for the program
+        counted!(self.rows_pruned = pruned_graph_tmp.to_vec()); // local: kept for the program
         (0..self.nodes.len()).for_each(|i| {
             self.inter_insert(i, self.index_size, pruned_graph_tmp);
         });
-        self.rows_linked = pruned_graph_tmp.to_vec(); // local: kept for the program
+        counted!(self.rows_linked = pruned_graph_tmp.to_vec()); // local: kept for the program
     }
 
     fn prune_graph(
@@ -160,7 +161,7 @@ impl<E: node::FloatElement, T: node::IdxType> SSGIndex<E, T> {
             if flags.contains(linked_id) {
                 return;
             }
-            branches::own_member_added(flags.len() >= self.neighbor_neighbor_size); // local: counted
+            counted!(branches::own_member_added(flags.len() >= self.neighbor_neighbor_size)); // local: counted
             expand_neighbors_tmp.push(neighbor::Neighbor::new(
                 *linked_id,
                 self.nodes[query_id]
@@ -184,7 +185,7 @@ impl<E: node::FloatElement, T: node::IdxType> SSGIndex<E, T> {
             for iter in result.iter() {
                 if p.idx() == iter.idx() {
                     // stop early
-                    branches::met("step three equal node occludes"); // local: counted
+                    counted!(branches::met("step three equal node occludes")); // local: counted
                     occlude = true;
                     break;
                 }
@@ -193,7 +194,7 @@ impl<E: node::FloatElement, T: node::IdxType> SSGIndex<E, T> {
                     .unwrap();
                 let cos_ij = (p.distance().powi(2) + iter.distance().powi(2) - djk.powi(2))
                     / (E::from_usize(2).unwrap() * (p.distance() * iter.distance()));
-                branches::cosine(p.distance(), iter.distance(), djk, cos_ij, threshold); // local: counted
+                counted!(branches::cosine(p.distance(), iter.distance(), djk, cos_ij, threshold)); // local: counted
 
                 if cos_ij > threshold {
                     occlude = true;
@@ -228,10 +229,10 @@ impl<E: node::FloatElement, T: node::IdxType> SSGIndex<E, T> {
     ) {
         (0..range).for_each(|i| {
             if pruned_graph_tmp[i + n].distance() == E::max_value() {
-                branches::met("step five empty slot passed"); // local: counted
+                counted!(branches::met("step five empty slot passed")); // local: counted
                 return;
             }
-            branches::slot_read(pruned_graph_tmp, i + n, n, self.index_size); // local: counted
+            counted!(branches::slot_read(pruned_graph_tmp, i + n, n, self.index_size)); // local: counted
 
             let sn = neighbor::Neighbor::new(n, pruned_graph_tmp[i + n].distance()); // distance of n to i
             let des = pruned_graph_tmp[i + n].idx();
@@ -246,7 +247,7 @@ impl<E: node::FloatElement, T: node::IdxType> SSGIndex<E, T> {
                 if n == pruned_graph_tmp[j + des * self.index_size].idx() {
                     // neighbor and point meet
                     dup = true;
-                    branches::met("step five already linked"); // local: counted
+                    counted!(branches::met("step five already linked")); // local: counted
                     break;
                 }
                 temp_pool.push(pruned_graph_tmp[j + des * self.index_size].clone());
@@ -262,7 +263,7 @@ impl<E: node::FloatElement, T: node::IdxType> SSGIndex<E, T> {
                 let mut result = Vec::new();
                 let mut start = 0;
                 temp_pool.sort_unstable();
-                branches::met("step five full row chosen again"); // local: counted
+                counted!(branches::met("step five full row chosen again")); // local: counted
                 result.push(temp_pool[start].clone());
                 start += 1;
                 while result.len() < range && start < temp_pool.len() {
@@ -270,7 +271,7 @@ impl<E: node::FloatElement, T: node::IdxType> SSGIndex<E, T> {
                     let mut occlude = false;
                     for rt in result.iter() {
                         if p.idx() == rt.idx() {
-                            branches::met("step five equal node occludes"); // local: counted
+                            counted!(branches::met("step five equal node occludes")); // local: counted
                             occlude = true;
                             break;
                         }
@@ -279,7 +280,7 @@ impl<E: node::FloatElement, T: node::IdxType> SSGIndex<E, T> {
                             .unwrap();
                         let cos_ij = (p.distance().powi(2) + rt.distance().powi(2) - djk.powi(2))
                             / (E::from_usize(2).unwrap() * (p.distance() * rt.distance()));
-                        branches::cosine(p.distance(), rt.distance(), djk, cos_ij, self.threshold); // local: counted
+                        counted!(branches::cosine(p.distance(), rt.distance(), djk, cos_ij, self.threshold)); // local: counted
 
                         if cos_ij > self.threshold {
                             occlude = true;
@@ -296,7 +297,7 @@ impl<E: node::FloatElement, T: node::IdxType> SSGIndex<E, T> {
                 });
 
                 if result.len() < range {
-                    branches::row_shortened(result.len(), range); // local: counted
+                    counted!(branches::row_shortened(result.len(), range)); // local: counted
                     pruned_graph_tmp[result.len() + des * self.index_size]._distance =
                         E::max_value();
                 }
@@ -304,7 +305,7 @@ impl<E: node::FloatElement, T: node::IdxType> SSGIndex<E, T> {
                 for t in 0..range {
                     if pruned_graph_tmp[t + des * self.index_size].distance() == E::max_value() {
                         pruned_graph_tmp[t + des * self.index_size] = sn.clone();
-                        branches::offer_at_empty_slot(t + 1 < range); // local: counted
+                        counted!(branches::offer_at_empty_slot(t + 1 < range)); // local: counted
                         if (t + 1) < range {
                             pruned_graph_tmp[t + des * self.index_size]._distance = E::max_value();
                             break;
@@ -364,11 +365,11 @@ impl<E: node::FloatElement, T: node::IdxType> SSGIndex<E, T> {
         let mut vec_tmp = Vec::with_capacity(self.root_nodes.len());
         self.root_nodes.iter().for_each(|n| {
             let dist = self.nodes[*n].metric(query, self.mt).unwrap();
-            branches::worked_out(*n, dist); // local: counted
+            counted!(branches::worked_out(*n, dist)); // local: counted
             vec_tmp.push(neighbor::Neighbor::new(*n, dist));
         });
         vec_tmp.sort();
-        branches::roots(vec_tmp.len(), k); // local: counted
+        counted!(branches::roots(vec_tmp.len(), k)); // local: counted
         for iter in vec_tmp.iter() {
             if heap.len() < k {
                 heap.push(iter.clone());
@@ -380,18 +381,18 @@ impl<E: node::FloatElement, T: node::IdxType> SSGIndex<E, T> {
         // greedy BFS search
         while !search_queue.is_empty() {
             let id = search_queue.pop_front().unwrap();
-            self.search_times.fetch_add(1, Ordering::Relaxed); // local: counted
-            branches::taken(heap.iter().any(|best| best.idx() == id)); // local: counted
+            self.search_times.store(self.takings() + 1, Ordering::Relaxed); // local: counted
+            counted!(branches::taken(heap.iter().any(|best| best.idx() == id))); // local: counted
 
             let mut tmp = BinaryHeap::with_capacity(self.graph[id].len());
             for iter in self.graph[id].iter() {
                 if search_flags.contains(*iter) {
-                    branches::seen_member(&tmp, *iter, &vec_tmp, k); // local: counted
+                    counted!(branches::seen_member(&tmp, *iter, &vec_tmp, k)); // local: counted
                     continue;
                 }
 
                 let dist = self.nodes[*iter].metric(query, self.mt).unwrap();
-                branches::worked_out(*iter, dist); // local: counted
+                counted!(branches::worked_out(*iter, dist)); // local: counted
                 tmp.push(Reverse(neighbor::Neighbor::new(*iter, dist)));
                 search_flags.insert(*iter);
             }
@@ -399,10 +400,10 @@ impl<E: node::FloatElement, T: node::IdxType> SSGIndex<E, T> {
                 let Reverse(item) = tmp.pop().unwrap();
                 // let item = tmp.pop().unwrap();
                 if item.distance() > heap.peek().unwrap().distance() {
-                    branches::row_ended(tmp.len()); // local: counted
+                    counted!(branches::row_ended(tmp.len())); // local: counted
                     break;
                 }
-                branches::best_replaced(item.distance() == heap.peek().unwrap().distance()); // local: counted
+                counted!(branches::best_replaced(item.distance() == heap.peek().unwrap().distance())); // local: counted
                 heap.pop();
                 search_queue.push_back(item.idx());
                 heap.push(item);

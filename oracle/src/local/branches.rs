@@ -65,6 +65,16 @@ thread_local! {
     static FIRST_UNFIT: Cell<Option<usize>> = const { Cell::new(None) };
 }
 
+/// Takes a count where the feature `counts` is on, as it is by default. Where it is off nothing of it is worked out: `bench` measures hora's own work.
+#[macro_export]
+macro_rules! counted {
+    ( $taken:expr ) => {
+        if cfg!(feature = "counts") {
+            $taken;
+        }
+    };
+}
+
 pub fn met(name: &str) {
     let known = NAMES
         .iter()
