@@ -151,8 +151,9 @@ spoonmeadow_said spoonmeadow_begin(
     uint32_t *scratch_u, size_t scratch_u_length,
     float *scratch_f, size_t scratch_f_length);
 
-/* Iterates a descent once, on a state that spoonmeadow_begin or an iteration left: pairs of each node's context meet, and the cost counts each
-   update of unequal nodes; then every context gets its new, old and reversed lists, and total counts the new found, before lists longer than s are shortened.
+/* Iterates a descent once, on a well-formed state, as spoonmeadow_begin and an iteration leave it: the pairs of each node's context meet, and the
+   cost counts each update of unequal nodes; then every context gets new lists, and total counts the new members found, before lists longer than
+   s are shortened.
    Refusals: 1, 2, 3, 4 (k 1 to 64, s 1 to k), 6, 10 at the first unfit pair, 11, 12.
 
    lanes         exactly SPOONMEADOW_LANES_LENGTH(n, dimension), node by node
