@@ -96,7 +96,7 @@ fn judge(
     ) {
         return Answer::Refused(Refusal::Buffer);
     }
-    kernels::first_unfit(lanes, dimension, n)
+    pairs::first_unfit(lanes, dimension, n)
 }
 
 /// Steps 1 to 4: the slots' nodes in the graph's places, their distances in the front of `floats`; `words` holds the exact lists.

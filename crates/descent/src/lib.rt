@@ -72,7 +72,7 @@ pub fn judge(
     if wrong_buffers(n, k, state_u, state_f, words, floats) {
         return Answer::Refused(Refusal::Buffer);
     }
-    kernels::first_unfit(lanes, dimension, n)
+    pairs::first_unfit(lanes, dimension, n)
 }
 
 /// Begins a descent (hora's `init`): unfilled lists, for each node `s` new and then `s` reversed-new draws modulo n, no pair visited. Rows 1,

@@ -1,0 +1,2 @@
+-- Floats of bounded size.
+pub mod Sizes
