@@ -1,0 +1,99 @@
+// The common ground of the programs over a relay: places inside its state, and floats by their bits, beside a list's and beside others.
+use cases::Cursor;
+use replays::Compared;
+
+fn sum(a: usize, b: usize) -> usize {
+    std::num::wrapping_add_usize(a, b)
+}
+
+/// A word as a place.
+pub fn index(word: u32) -> usize {
+    word as usize
+}
+
+/// Where node `node`'s list starts, in the words and in the floats.
+pub fn list_at(k: usize, node: usize) -> usize {
+    cases::area(node, sum(k, 64))
+}
+
+/// The place of the length of node `node`'s list.
+pub fn length_at(n: usize, k: usize, node: usize) -> usize {
+    sum(cases::area(n, sum(k, 64)), node)
+}
+
+/// The first of job `job`'s 15 words; the number of jobs stands in front of the first job.
+pub fn job_at(n: usize, k: usize, job: usize) -> usize {
+    sum(cases::area(n, sum(k, 65)), sum(1, cases::area(15, job)))
+}
+
+/// The place of job `job`'s distance.
+pub fn distance_at(n: usize, k: usize, job: usize) -> usize {
+    sum(cases::area(n, sum(k, 64)), job)
+}
+
+/// How many words a state is.
+pub fn words_long(n: usize, k: usize) -> usize {
+    sum(cases::area(n, sum(k, 65)), 1024)
+}
+
+/// How many floats a state is.
+pub fn floats_long(n: usize, k: usize) -> usize {
+    sum(cases::area(n, sum(k, 64)), 64)
+}
+
+/// The bits of a float; a NaN's count as all ones.
+pub fn bits_of(x: f32) -> u32 {
+    if x != x {
+        return 0xFFFF_FFFF;
+    }
+    f32::to_bits(x)
+}
+
+/// Compares the bits of our floats with the next numbers of a list.
+pub fn compare_bits(text: &[u8], c: Cursor, ours: &[f32]) -> Compared {
+    let mut i: usize = 0;
+    let mut at: usize = 0;
+    let mut cursor = c;
+    while i < ours.len() {
+        let w = cases::read_word(text, cursor);
+        cursor = w.cursor;
+        i += 1;
+        if w.value == bits_of(ours[i - 1]) {
+            at = std::num::wrapping_add_usize(at, 1);
+        }
+    }
+    Compared {
+        at: at,
+        cursor: cursor,
+    }
+}
+
+/// Whether two slices hold the same words.
+pub fn same_words(a: &[u32], b: &[u32]) -> bool {
+    if a.len() != b.len() {
+        return false;
+    }
+    let mut i: usize = 0;
+    while i < a.len() {
+        if a[i] != b[i] {
+            return false;
+        }
+        i += 1;
+    }
+    true
+}
+
+/// Whether two slices hold the same floats, bit for bit but for what a NaN is.
+pub fn same_floats(a: &[f32], b: &[f32]) -> bool {
+    if a.len() != b.len() {
+        return false;
+    }
+    let mut i: usize = 0;
+    while i < a.len() {
+        if bits_of(a[i]) != bits_of(b[i]) {
+            return false;
+        }
+        i += 1;
+    }
+    true
+}

@@ -1,0 +1,394 @@
+// Replays the oracle's relays: each case of the list is opened, moved in its order and closed, on lent places full of junk; the list
+// that each move leaves, the lists at the end and the reports are compared with the Rust's.
+use cases::Cursor;
+use rules::Answer;
+use tallies::Outcome;
+use tallies::Tally;
+
+// The kind of a relay in a list.
+const RELAY: u32 = 5;
+// What lent places hold before a call.
+const JUNK: u32 = 0xCDCD_CDCD;
+
+// The numbers of a case, and the place of its lanes in the list.
+struct Shape {
+    dimension: usize,
+    n: usize,
+    k: usize,
+    cursor: Cursor,
+}
+
+fn read_shape(text: &[u8], c: Cursor) -> Shape {
+    let d = cases::read_size(text, c, 64);
+    let n = cases::read_size(text, d.cursor, 256);
+    let k = cases::read_size(text, n.cursor, 64);
+    let cursor = k.cursor;
+    Shape {
+        dimension: d.value,
+        n: n.value,
+        k: k.value,
+        cursor: cursor,
+    }
+}
+
+fn done(answer: Answer) -> bool {
+    match answer {
+        Answer::Done => true,
+        Answer::Refused(_) => false,
+    }
+}
+
+// The outcome with two slices beside the list's: nodes, and distances by their bits.
+fn beside(text: &[u8], o: Outcome, nodes: &[u32], dists: &[f32]) -> Outcome {
+    let a = replays::compare(text, o.cursor, nodes);
+    let b = relays::compare_bits(text, a.cursor, dists);
+    let cursor = b.cursor;
+    let p = Outcome {
+        differs: o.differs,
+        cursor: cursor,
+    };
+    let q = tallies::and(p, a.at == nodes.len(), tallies::NODES);
+    tallies::and(q, b.at == dists.len(), tallies::BITS)
+}
+
+// A list in its room, of as many entries as the list of answers says.
+fn in_room(
+    text: &[u8],
+    o: Outcome,
+    from: usize,
+    to: usize,
+    words: &[u32],
+    floats: &[f32],
+) -> Outcome {
+    if to < from {
+        return tallies::and(o, false, tallies::LENGTH);
+    }
+    if words.len() < to {
+        return tallies::and(o, false, tallies::LENGTH);
+    }
+    if floats.len() < to {
+        return tallies::and(o, false, tallies::LENGTH);
+    }
+    beside(text, o, &words[from..to], &floats[from..to])
+}
+
+// The word at a place, and a word that no list is long where there is none.
+fn word_at(words: &[u32], at: usize) -> u32 {
+    if words.len() <= at {
+        return JUNK;
+    }
+    words[at]
+}
+
+// The list of node `node` as a move left it, beside the list's.
+fn left(text: &[u8], o: Outcome, s: Shape, node: usize, words: &[u32], floats: &[f32]) -> Outcome {
+    let len = cases::read_size(text, o.cursor, 128);
+    let cursor = len.cursor;
+    let p = Outcome {
+        differs: o.differs,
+        cursor: cursor,
+    };
+    let ours = word_at(words, relays::length_at(s.n, s.k, node));
+    let q = tallies::and(p, ours == len.value as u32, tallies::LENGTH);
+    let from = relays::list_at(s.k, node);
+    let to = std::num::wrapping_add_usize(from, len.value);
+    in_room(text, q, from, to, words, floats)
+}
+
+// The node whose list a job's last step concerned: u in its first four steps, v in its last four.
+fn concerned(s: Shape, job: usize, jobs: &[u32], words: &[u32]) -> usize {
+    let steps = std::num::wrapping_add_usize(relays::job_at(s.n, s.k, job), 2);
+    let u = cases::area(2, job);
+    if word_at(words, steps) <= 4 {
+        return relays::index(word_at(jobs, u));
+    }
+    relays::index(word_at(jobs, std::num::wrapping_add_usize(u, 1)))
+}
+
+fn moved(
+    text: &[u8],
+    o: Outcome,
+    s: Shape,
+    job: usize,
+    jobs: &[u32],
+    words: &mut [u32],
+    floats: &mut [f32],
+) -> Outcome {
+    let answer = relay_move::move_job(s.n, s.k, job, words, floats);
+    let p = tallies::and(o, done(answer), tallies::REFUSED);
+    let node = concerned(s, job, jobs, words);
+    left(text, p, s, node, words, floats)
+}
+
+// The moves in their order.
+fn run(
+    text: &[u8],
+    o: Outcome,
+    s: Shape,
+    jobs: &[u32],
+    order: &[u32],
+    words: &mut [u32],
+    floats: &mut [f32],
+) -> Outcome {
+    let mut i: usize = 0;
+    let mut p = o;
+    while i < order.len() {
+        let next = moved(text, p, s, relays::index(order[i]), jobs, words, floats);
+        p = next;
+        i += 1;
+    }
+    p
+}
+
+// The reports beside the list's; further places are unchanged.
+fn reported(text: &[u8], o: Outcome, count: usize, reports: &[u32]) -> Outcome {
+    let long = cases::least(count, reports.len());
+    let a = replays::compare(text, o.cursor, &reports[..long]);
+    let cursor = a.cursor;
+    let p = Outcome {
+        differs: o.differs,
+        cursor: cursor,
+    };
+    let q = tallies::and(p, a.at == long, tallies::COUNT);
+    tallies::and(q, replays::all_words(reports, long, JUNK), tallies::BEYOND)
+}
+
+// The close, on places of the lists' length.
+fn closed(
+    text: &[u8],
+    o: Outcome,
+    s: Shape,
+    count: usize,
+    words: &[u32],
+    floats: &[f32],
+    nodes: &mut [u32],
+    dists: &mut [f32],
+) -> Outcome {
+    let mut reports = [JUNK; 128];
+    let answer = relay_close::close(s.n, s.k, words, floats, nodes, dists, &mut reports);
+    let p = tallies::and(o, done(answer), tallies::REFUSED);
+    let q = beside(text, p, nodes, dists);
+    reported(text, q, count, &reports)
+}
+
+fn close_in(
+    text: &[u8],
+    o: Outcome,
+    s: Shape,
+    count: usize,
+    words: &[u32],
+    floats: &[f32],
+) -> Outcome {
+    let mut nodes = [JUNK; 256];
+    let mut dists = [1.5f32; 256];
+    let nodes_long = cases::least(cases::area(s.n, s.k), nodes.len());
+    let dists_long = cases::least(cases::area(s.n, s.k), dists.len());
+    closed(
+        text,
+        o,
+        s,
+        count,
+        words,
+        floats,
+        &mut nodes[..nodes_long],
+        &mut dists[..dists_long],
+    )
+}
+
+// The opening. `c` is the place behind the jobs in the list.
+fn opened(
+    c: Cursor,
+    s: Shape,
+    lanes: &[f32],
+    nodes: &[u32],
+    dists: &[f32],
+    jobs: &[u32],
+    words: &mut [u32],
+    floats: &mut [f32],
+) -> Outcome {
+    let mut scratch_u = [JUNK; 55296];
+    let mut scratch_f = [1.5f32; 55296];
+    let answer = relay_opening::open(
+        s.dimension,
+        s.n,
+        lanes,
+        s.k,
+        nodes,
+        dists,
+        jobs,
+        words,
+        floats,
+        &mut scratch_u,
+        &mut scratch_f,
+    );
+    let o = Outcome {
+        differs: tallies::NOTHING,
+        cursor: c,
+    };
+    let p = tallies::and(o, done(answer), tallies::REFUSED);
+    tallies::with_scratch(p, &scratch_u, &scratch_f)
+}
+
+// The moves in the case's order, read into a slice of its length, and the close.
+fn ordered(
+    text: &[u8],
+    o: Outcome,
+    s: Shape,
+    jobs: &[u32],
+    order: &mut [u32],
+    words: &mut [u32],
+    floats: &mut [f32],
+) -> Outcome {
+    let cursor = cases::read_words(text, o.cursor, order);
+    let p = Outcome {
+        differs: o.differs,
+        cursor: cursor,
+    };
+    let q = run(text, p, s, jobs, order, words, floats);
+    close_in(text, q, s, jobs.len(), words, floats)
+}
+
+fn moves(
+    text: &[u8],
+    o: Outcome,
+    s: Shape,
+    jobs: &[u32],
+    words: &mut [u32],
+    floats: &mut [f32],
+) -> Outcome {
+    let count = cases::read_size(text, o.cursor, 512);
+    let long = count.value;
+    let cursor = count.cursor;
+    let p = Outcome {
+        differs: o.differs,
+        cursor: cursor,
+    };
+    let mut order = [0u32; 512];
+    ordered(text, p, s, jobs, &mut order[..long], words, floats)
+}
+
+// The relay on a state of the case's lengths. `c` is the place of the moves in the list.
+fn relayed(
+    text: &[u8],
+    c: Cursor,
+    s: Shape,
+    lanes: &[f32],
+    nodes: &[u32],
+    dists: &[f32],
+    jobs: &[u32],
+    words: &mut [u32],
+    floats: &mut [f32],
+) -> Outcome {
+    let o = opened(c, s, lanes, nodes, dists, jobs, words, floats);
+    moves(text, o, s, jobs, words, floats)
+}
+
+// The case's jobs, read into a slice of their length.
+fn with_jobs(
+    text: &[u8],
+    c: Cursor,
+    s: Shape,
+    lanes: &[f32],
+    nodes: &[u32],
+    dists: &[f32],
+    jobs: &mut [u32],
+) -> Outcome {
+    let mut words = [JUNK; 8192];
+    let mut floats = [1.5f32; 8192];
+    let words_long = cases::least(relays::words_long(s.n, s.k), words.len());
+    let floats_long = cases::least(relays::floats_long(s.n, s.k), floats.len());
+    let cursor = cases::read_words(text, c, jobs);
+    relayed(
+        text,
+        cursor,
+        s,
+        lanes,
+        nodes,
+        dists,
+        jobs,
+        &mut words[..words_long],
+        &mut floats[..floats_long],
+    )
+}
+
+fn with_lists(
+    text: &[u8],
+    c: Cursor,
+    s: Shape,
+    lanes: &[f32],
+    nodes: &[u32],
+    dists: &[f32],
+) -> Outcome {
+    let count = cases::read_size(text, c, 64);
+    let long = 2 * count.value;
+    let mut jobs = [0u32; 128];
+    with_jobs(
+        text,
+        count.cursor,
+        s,
+        lanes,
+        nodes,
+        dists,
+        &mut jobs[..long],
+    )
+}
+
+// The case's lanes and lists, read into slices of their lengths.
+fn given(
+    text: &[u8],
+    s: Shape,
+    lanes: &mut [f32],
+    nodes: &mut [u32],
+    dists: &mut [f32],
+) -> Outcome {
+    let a = cases::read_floats(text, s.cursor, lanes);
+    let b = cases::read_words(text, a, nodes);
+    let c = cases::read_floats(text, b, dists);
+    with_lists(text, c, s, lanes, nodes, dists)
+}
+
+// The parts of our places that the case asks for; what is too long for them is cut, and so refused.
+fn lent(text: &[u8], s: Shape, lanes: &mut [f32], nodes: &mut [u32], dists: &mut [f32]) -> Outcome {
+    let lanes_long = cases::least(cases::area(s.n, s.dimension), lanes.len());
+    let nodes_long = cases::least(cases::area(s.n, s.k), nodes.len());
+    let dists_long = cases::least(cases::area(s.n, s.k), dists.len());
+    given(
+        text,
+        s,
+        &mut lanes[..lanes_long],
+        &mut nodes[..nodes_long],
+        &mut dists[..dists_long],
+    )
+}
+
+fn one_case(text: &[u8], c: Cursor) -> Outcome {
+    let s = read_shape(text, c);
+    let mut lanes = [0.0f32; 2048];
+    let mut nodes = [0u32; 256];
+    let mut dists = [0.0f32; 256];
+    lent(text, s, &mut lanes, &mut nodes, &mut dists)
+}
+
+// A proved loop has to end: it counts its turns down, from more cases than a list has.
+fn replayed(text: &[u8]) -> Tally {
+    let mut turns: u32 = 65536;
+    let mut t = tallies::none();
+    while turns > 0 {
+        let case = replays::next_case(text, t.cursor, t.compared);
+        let cursor = case.cursor;
+        if case.kind != RELAY {
+            return tallies::ended(t, case.kind, cursor);
+        }
+        let o = one_case(text, cursor);
+        let next = tallies::with_case(t, o);
+        t = next;
+        turns -= 1;
+    }
+    t
+}
+
+fn main() {
+    let mut room = cases::room();
+    let n = io::read_full(0, &mut room);
+    tallies::print(b"relays compared: ", replayed(&room[..n]));
+}
