@@ -1,4 +1,4 @@
-// The common ground of the programs over a relay: places inside its state, and floats by their bits, beside a list's and beside others.
+// The common ground of the programs over a relay: places inside its state, words and floats put there, and floats by their bits.
 use cases::Cursor;
 use replays::Compared;
 
@@ -96,4 +96,30 @@ pub fn same_floats(a: &[f32], b: &[f32]) -> bool {
         i += 1;
     }
     true
+}
+
+/// Puts a word at a place; a place behind the end changes nothing.
+pub fn put_word(words: &mut [u32], at: usize, word: u32) {
+    if at < words.len() {
+        words[at] = word;
+    }
+}
+
+/// Puts a float at a place; a place behind the end changes nothing.
+pub fn put_float(floats: &mut [f32], at: usize, float: f32) {
+    if at < floats.len() {
+        floats[at] = float;
+    }
+}
+
+/// Prints the first `count` words, each behind a space.
+pub fn print_words(words: &[u32], count: usize) {
+    let mut i: usize = 0;
+    while i < count {
+        if i >= words.len() {
+            return;
+        }
+        refusals::put_word(b" ", words[i]);
+        i += 1;
+    }
 }

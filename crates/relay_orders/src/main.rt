@@ -1,0 +1,296 @@
+// Square I of the settled squares in three orders of its moves, and then 44 orders of each of nine sets of jobs, through open, a move and
+// a close: every order of one set must end in the same lists.
+use libc::STDOUT_FILENO;
+
+mod order;
+mod run;
+
+// The orders of a set: four by rule, and further ones shuffled.
+const ORDERS: u32 = 44;
+// The distance of an unfilled entry, 0x7F7FFFFF by its bits.
+const EMPTY: f32 = 340282346638528859811704183484516925440.0;
+
+// Lists of a relay, in the front.
+struct Lists {
+    nodes: [u32; 24],
+    dists: [f32; 24],
+}
+
+// The lists after a close, and how many calls were refused on the way.
+struct Outcome {
+    lists: Lists,
+    refused: u32,
+}
+
+// The sets and orders run, the orders whose lists differ from those of their set's first, and the calls refused.
+struct Tally {
+    sets: u32,
+    orders: u32,
+    differ: u32,
+    refused: u32,
+}
+
+fn more(a: u32, b: u32) -> u32 {
+    std::num::wrapping_add_u32(a, b)
+}
+
+fn unfilled(n: u32) -> Lists {
+    Lists {
+        nodes: [n; 24],
+        dists: [EMPTY; 24],
+    }
+}
+
+// A relay in an order that is filled in first: jobs have two words and eight moves each.
+fn in_order(
+    n: usize,
+    k: usize,
+    lanes: &[f32],
+    jobs: &[u32],
+    kind: u32,
+    order: &mut [u32],
+    nodes: &mut [u32],
+    dists: &mut [f32],
+) -> u32 {
+    let mut reports = [0u32; 128];
+    order::fill(order, kind, jobs.len() / 2);
+    run::whole(n, k, lanes, jobs, order, nodes, dists, &mut reports)
+}
+
+fn by_kind(
+    n: usize,
+    k: usize,
+    lanes: &[f32],
+    jobs: &[u32],
+    kind: u32,
+    nodes: &mut [u32],
+    dists: &mut [f32],
+) -> u32 {
+    let mut order = [0u32; 512];
+    let long = cases::least(cases::area(4, jobs.len()), 512);
+    in_order(n, k, lanes, jobs, kind, &mut order[..long], nodes, dists)
+}
+
+// A relay on the lists in the front of two slices.
+fn in_front(
+    n: usize,
+    k: usize,
+    lanes: &[f32],
+    jobs: &[u32],
+    kind: u32,
+    nodes: &mut [u32],
+    dists: &mut [f32],
+) -> u32 {
+    let nodes_long = cases::least(cases::area(n, k), nodes.len());
+    let dists_long = cases::least(cases::area(n, k), dists.len());
+    by_kind(
+        n,
+        k,
+        lanes,
+        jobs,
+        kind,
+        &mut nodes[..nodes_long],
+        &mut dists[..dists_long],
+    )
+}
+
+// The lists that an order ends in.
+fn ended(n: usize, k: usize, lanes: &[f32], jobs: &[u32], l: Lists, kind: u32) -> Outcome {
+    let mut nodes = l.nodes;
+    let mut dists = l.dists;
+    let refused = in_front(n, k, lanes, jobs, kind, &mut nodes, &mut dists);
+    Outcome {
+        lists: Lists {
+            nodes: nodes,
+            dists: dists,
+        },
+        refused: refused,
+    }
+}
+
+fn differ(a: Lists, b: Lists) -> u32 {
+    let nodes = a.nodes;
+    let dists = a.dists;
+    let other_nodes = b.nodes;
+    let other_dists = b.dists;
+    if !relays::same_words(&nodes, &other_nodes) {
+        return 1;
+    }
+    if !relays::same_floats(&dists, &other_dists) {
+        return 1;
+    }
+    0
+}
+
+// One order more of a set whose first ended in `first`.
+fn with_order(t: Tally, first: Lists, e: Outcome) -> Tally {
+    let lists = e.lists;
+    Tally {
+        sets: t.sets,
+        orders: more(t.orders, 1),
+        differ: more(t.differ, differ(first, lists)),
+        refused: more(t.refused, e.refused),
+    }
+}
+
+// One set more, whose first order ended in `first`: all its orders.
+fn with_set(
+    n: usize,
+    k: usize,
+    lanes: &[f32],
+    jobs: &[u32],
+    given: Lists,
+    first: Lists,
+    t: Tally,
+) -> Tally {
+    let mut kind: u32 = 0;
+    let mut tally = Tally {
+        sets: more(t.sets, 1),
+        orders: t.orders,
+        differ: t.differ,
+        refused: t.refused,
+    };
+    while kind < ORDERS {
+        let e = ended(n, k, lanes, jobs, given, kind);
+        let next = with_order(tally, first, e);
+        tally = next;
+        kind += 1;
+    }
+    tally
+}
+
+fn put_lists(nodes: &[u32], dists: &[f32]) {
+    let mut i: usize = 0;
+    while i < nodes.len() {
+        if i >= dists.len() {
+            return;
+        }
+        refusals::put_word(b" ", nodes[i]);
+        refusals::put_word(b" at ", relays::bits_of(dists[i]));
+        i += 1;
+    }
+}
+
+// Square I in an order of its 24 moves: the lists, two entries a node, and the reports.
+fn square(name: &[u8], order: &[u32]) {
+    let lanes = [0.0f32, 1.0, 3.0, 7.0];
+    let jobs = [0u32, 1, 0, 3, 0, 2];
+    let mut nodes = [4u32; 8];
+    let mut dists = [EMPTY; 8];
+    let mut reports = [0u32; 128];
+    let refused = run::whole(
+        4,
+        2,
+        &lanes,
+        &jobs,
+        order,
+        &mut nodes,
+        &mut dists,
+        &mut reports,
+    );
+    io::write_all(STDOUT_FILENO, name);
+    put_lists(&nodes, &dists);
+    io::write_all(STDOUT_FILENO, b", reports");
+    relays::print_words(&reports, 6);
+    io::write_all(STDOUT_FILENO, b"\n");
+    if refused != 0 {
+        refusals::put_word(b"refused: ", refused);
+    }
+}
+
+fn squares() {
+    let mut one = [0u32; 24];
+    order::fill(&mut one, 0, 3);
+    square(b"I, one job at a time:", &one);
+    let mut round = [0u32; 24];
+    order::fill(&mut round, 1, 3);
+    square(b"I, a step of each in turn:", &round);
+    let last = [
+        0u32,
+        0,
+        0,
+        0,
+        0,
+        0,
+        0,
+        0,
+        2,
+        2,
+        2,
+        2,
+        2,
+        2,
+        2,
+        2,
+        1,
+        1,
+        1,
+        1,
+        1,
+        1,
+        1,
+        1,
+    ];
+    square(b"I, the second job last:", &last);
+}
+
+// One set more, on given lists.
+fn on_lists(n: usize, k: usize, lanes: &[f32], jobs: &[u32], given: Lists, t: Tally) -> Tally {
+    let e = ended(n, k, lanes, jobs, given, 0);
+    let first = e.lists;
+    with_set(n, k, lanes, jobs, given, first, t)
+}
+
+// Square I.
+fn with_square(t: Tally) -> Tally {
+    let lanes = [0.0f32, 1.0, 3.0, 7.0];
+    let jobs = [0u32, 1, 0, 3, 0, 2];
+    on_lists(4, 2, &lanes, &jobs, unfilled(4), t)
+}
+
+// Twelve jobs on the lists that others left.
+fn with_more(k: usize, seed: u32, lanes: &[f32], given: Lists, t: Tally) -> Tally {
+    let mut jobs = [0u32; 24];
+    order::fill_drawn(&mut jobs, more(seed, 2), 6);
+    on_lists(6, k, lanes, &jobs, given, t)
+}
+
+// A game of six nodes: twelve jobs on unfilled lists, and twelve on what these left.
+fn with_jobs(k: usize, seed: u32, lanes: &[f32], t: Tally) -> Tally {
+    let mut jobs = [0u32; 24];
+    order::fill_drawn(&mut jobs, more(seed, 1), 6);
+    let half = on_lists(6, k, lanes, &jobs, unfilled(6), t);
+    let e = ended(6, k, lanes, &jobs, unfilled(6), 0);
+    let left = e.lists;
+    with_more(k, seed, lanes, left, half)
+}
+
+fn with_game(k: usize, seed: u32, t: Tally) -> Tally {
+    let mut lanes = [0.0f32; 6];
+    order::fill_lanes(&mut lanes, seed);
+    with_jobs(k, seed, &lanes, t)
+}
+
+fn all_sets() -> Tally {
+    let none = Tally {
+        sets: 0,
+        orders: 0,
+        differ: 0,
+        refused: 0,
+    };
+    let a = with_square(none);
+    let b = with_game(1, 20261101, a);
+    let c = with_game(2, 20261102, b);
+    let d = with_game(3, 20261103, c);
+    with_game(4, 20261104, d)
+}
+
+fn main() {
+    squares();
+    let t = all_sets();
+    refusals::put_word(b"sets: ", t.sets);
+    refusals::put_word(b"\norders: ", t.orders);
+    refusals::put_word(b"\nthat differ: ", t.differ);
+    refusals::put_word(b"\ncalls refused: ", t.refused);
+    io::write_all(STDOUT_FILENO, b"\n");
+}
