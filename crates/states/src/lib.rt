@@ -39,19 +39,64 @@ pub fn read_blocks(text: &[u8], c: Cursor, out: &mut [u32]) -> Cursor {
     cursor
 }
 
-/// Whether two slices hold the same words.
-pub fn same_words(a: &[u32], b: &[u32]) -> bool {
-    if a.len() != b.len() {
-        return false;
+// Reads the lists, their nodes to the first `lists` of the words, and the contexts behind them.
+fn read_lists(
+    text: &[u8],
+    c: Cursor,
+    lists: usize,
+    words: &mut [u32],
+    floats: &mut [f32],
+) -> Cursor {
+    if words.len() < lists {
+        return cases::faulted(c, cases::UNEXPECTED);
     }
+    let nodes = cases::read_words(text, c, &mut words[..lists]);
+    let bits = cases::read_floats(text, nodes, floats);
+    read_blocks(text, bits, &mut words[lists..])
+}
+
+/// Reads the state of `n` lists of `k` into the places of ours; unused places of context lists stay.
+pub fn read_state(
+    text: &[u8],
+    c: Cursor,
+    n: usize,
+    k: usize,
+    words: &mut [u32],
+    floats: &mut [f32],
+) -> Cursor {
+    let lists = cases::area(n, k);
+    let marks = lists + cases::area(260, n);
+    if words.len() < marks {
+        return cases::faulted(c, cases::UNEXPECTED);
+    }
+    let contexts = read_lists(text, c, lists, &mut words[..marks], floats);
+    cases::read_words(text, contexts, &mut words[marks..])
+}
+
+/// Whether two slices hold the same words in their first `count` places, as far as they go.
+pub fn same_first(a: &[u32], b: &[u32], count: usize) -> bool {
     let mut i: usize = 0;
-    while i < a.len() {
+    while i < count {
+        if a.len() <= i {
+            return true;
+        }
+        if b.len() <= i {
+            return true;
+        }
         if a[i] != b[i] {
             return false;
         }
         i += 1;
     }
     true
+}
+
+/// Whether two slices hold the same words.
+pub fn same_words(a: &[u32], b: &[u32]) -> bool {
+    if a.len() != b.len() {
+        return false;
+    }
+    same_first(a, b, a.len())
 }
 
 // Whether two floats have the same bits, and neither is a NaN.
