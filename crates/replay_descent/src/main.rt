@@ -1,0 +1,396 @@
+// Replays the oracle's descents: each case of the list is given to `begin` and then `iterate`, or to `iterate` alone, on lent places full
+// of junk, and what every call answers and leaves is compared with what the Rust did.
+use cases::Cursor;
+use cases::Size;
+use rules::Answer;
+use rules::IterateAnswer;
+use tallies::Outcome;
+use tallies::Tally;
+
+// The kinds of a descent and of a single iteration in a list.
+const DESCENT: u32 = 3;
+
+const ITERATION: u32 = 4;
+// What lent places hold before a call.
+const JUNK: u32 = 0xCDCD_CDCD;
+
+// The numbers of a case, and the place of its lanes in the list.
+struct Shape {
+    dimension: usize,
+    n: usize,
+    k: usize,
+    s: usize,
+    cursor: Cursor,
+}
+
+// How an iteration came out, and the place behind its draws.
+struct Turned {
+    outcome: Outcome,
+    draws: Cursor,
+}
+
+fn read_shape(text: &[u8], c: Cursor) -> Shape {
+    let d = cases::read_size(text, c, 64);
+    let n = cases::read_size(text, d.cursor, 48);
+    let k = cases::read_size(text, n.cursor, 64);
+    let s = cases::read_size(text, k.cursor, 64);
+    let cursor = s.cursor;
+    Shape {
+        dimension: d.value,
+        n: n.value,
+        k: k.value,
+        s: s.value,
+        cursor: cursor,
+    }
+}
+
+// What differs so far, with another place in the list.
+fn at(o: Outcome, c: Cursor) -> Outcome {
+    Outcome {
+        differs: o.differs,
+        cursor: c,
+    }
+}
+
+// The state beside the list's, whose words and floats are given.
+fn compared(
+    o: Outcome,
+    s: Shape,
+    state_u: &[u32],
+    state_f: &[f32],
+    words: &[u32],
+    floats: &[f32],
+) -> Outcome {
+    let lists = cases::area(s.n, s.k);
+    let p = tallies::and(o, states::same_first(state_u, words, lists), tallies::NODES);
+    let q = tallies::and(p, states::same_floats(state_f, floats), tallies::BITS);
+    tallies::and(q, states::same_words(state_u, words), tallies::WORDS)
+}
+
+// The state beside the list's, which is read into `words` and `floats`.
+fn beside_read(
+    text: &[u8],
+    o: Outcome,
+    s: Shape,
+    state_u: &[u32],
+    state_f: &[f32],
+    words: &mut [u32],
+    floats: &mut [f32],
+) -> Outcome {
+    let cursor = states::read_state(text, o.cursor, s.n, s.k, words, floats);
+    compared(at(o, cursor), s, state_u, state_f, words, floats)
+}
+
+// Places as long as the state's, for the list's.
+fn beside(text: &[u8], o: Outcome, s: Shape, state_u: &[u32], state_f: &[f32]) -> Outcome {
+    let mut words = [0u32; 12648];
+    let mut floats = [0.0f32; 192];
+    let words_long = cases::least(state_u.len(), words.len());
+    let floats_long = cases::least(state_f.len(), floats.len());
+    beside_read(
+        text,
+        o,
+        s,
+        state_u,
+        state_f,
+        &mut words[..words_long],
+        &mut floats[..floats_long],
+    )
+}
+
+// A refused call: the state that the list has for it is passed.
+fn refused(text: &[u8], o: Outcome, c: Cursor, s: Shape) -> Outcome {
+    tallies::and(
+        at(o, kinds::pass_state(text, c, s.n, s.k)),
+        false,
+        tallies::REFUSED,
+    )
+}
+
+// An iteration's cost and total of new, beside the list's.
+fn counts(text: &[u8], o: Outcome, cost: usize, new: usize) -> Outcome {
+    let a = cases::read_word(text, o.cursor);
+    let b = cases::read_word(text, a.cursor);
+    let p = tallies::and(at(o, b.cursor), a.value as usize == cost, tallies::COUNT);
+    tallies::and(p, b.value as usize == new, tallies::COUNT)
+}
+
+// What an iteration answered and left, beside the list's from the cursor of `o` on.
+fn told(
+    text: &[u8],
+    o: Outcome,
+    s: Shape,
+    answer: IterateAnswer,
+    state_u: &[u32],
+    state_f: &[f32],
+) -> Outcome {
+    match answer {
+        IterateAnswer::Iterated { cost, new } => {
+            beside(text, counts(text, o, cost, new), s, state_u, state_f)
+        }
+        IterateAnswer::Refused(_) => refused(text, o, cases::pass(text, o.cursor, 2), s),
+    }
+}
+
+// The call of `iterate`.
+fn iterated(
+    text: &[u8],
+    o: Outcome,
+    s: Shape,
+    lanes: &[f32],
+    draws: &[u32],
+    state_u: &mut [u32],
+    state_f: &mut [f32],
+) -> Outcome {
+    let mut words = [JUNK; 28672];
+    let mut floats = [1.5f32; 28672];
+    let answer = iterate::iterate(
+        s.dimension,
+        s.n,
+        lanes,
+        s.k,
+        s.s,
+        draws,
+        state_u,
+        state_f,
+        &mut words,
+        &mut floats,
+    );
+    let p = told(text, o, s, answer, state_u, state_f);
+    tallies::with_scratch(p, &words, &floats)
+}
+
+// The draws of a call, after their number, to the front of the slice.
+fn read_draws(text: &[u8], c: Cursor, draws: &mut [u32]) -> Size {
+    let count = cases::read_size(text, c, draws.len());
+    let long = cases::least(count.value, draws.len());
+    let cursor = cases::read_words(text, count.cursor, &mut draws[..long]);
+    Size {
+        value: long,
+        cursor: cursor,
+    }
+}
+
+// One iteration of a descent, with the draws at `c`.
+fn turn(
+    text: &[u8],
+    c: Cursor,
+    o: Outcome,
+    s: Shape,
+    lanes: &[f32],
+    state_u: &mut [u32],
+    state_f: &mut [f32],
+) -> Turned {
+    let mut draws = [0u32; 512];
+    let drawn = read_draws(text, c, &mut draws);
+    let long = cases::least(drawn.value, draws.len());
+    let cursor = drawn.cursor;
+    Turned {
+        outcome: iterated(text, o, s, lanes, &draws[..long], state_u, state_f),
+        draws: cursor,
+    }
+}
+
+// The iterations of a descent, with the draws from `c` on.
+fn turns(
+    text: &[u8],
+    c: Cursor,
+    count: usize,
+    o: Outcome,
+    s: Shape,
+    lanes: &[f32],
+    state_u: &mut [u32],
+    state_f: &mut [f32],
+) -> Outcome {
+    let mut left = count;
+    let mut draws = c;
+    let mut so_far = o;
+    while left > 0 {
+        let t = turn(text, draws, so_far, s, lanes, state_u, state_f);
+        draws = t.draws;
+        so_far = t.outcome;
+        left -= 1;
+    }
+    so_far
+}
+
+// The call of `begin`. The cursor of `o` is the place of what the Rust left.
+fn begun(
+    text: &[u8],
+    o: Outcome,
+    s: Shape,
+    lanes: &[f32],
+    draws: &[u32],
+    state_u: &mut [u32],
+    state_f: &mut [f32],
+) -> Outcome {
+    let mut words = [JUNK; 28672];
+    let mut floats = [1.5f32; 28672];
+    let answer = descent::begin(
+        s.dimension,
+        s.n,
+        lanes,
+        s.k,
+        s.s,
+        draws,
+        state_u,
+        state_f,
+        &mut words,
+        &mut floats,
+    );
+    match answer {
+        Answer::Done => {
+            let p = beside(text, o, s, state_u, state_f);
+            tallies::with_scratch(p, &words, &floats)
+        }
+        Answer::Refused(_) => refused(text, o, o.cursor, s),
+    }
+}
+
+fn fresh(c: Cursor) -> Outcome {
+    Outcome {
+        differs: tallies::NOTHING,
+        cursor: c,
+    }
+}
+
+// A descent: `c` is the place of the draws. The iterations' draws stand before all answers, so they are read again in their turn.
+fn descended(
+    text: &[u8],
+    c: Cursor,
+    s: Shape,
+    lanes: &[f32],
+    state_u: &mut [u32],
+    state_f: &mut [f32],
+) -> Outcome {
+    let mut draws = [0u32; 512];
+    let drawn = read_draws(text, c, &mut draws);
+    let long = cases::least(drawn.value, draws.len());
+    let count = cases::read_size(text, drawn.cursor, 16);
+    let behind = kinds::pass_runs(text, count.cursor, count.value);
+    let o = begun(
+        text,
+        fresh(behind),
+        s,
+        lanes,
+        &draws[..long],
+        state_u,
+        state_f,
+    );
+    turns(
+        text,
+        count.cursor,
+        count.value,
+        o,
+        s,
+        lanes,
+        state_u,
+        state_f,
+    )
+}
+
+// The state that a single iteration starts from.
+fn read_given(
+    text: &[u8],
+    c: Cursor,
+    s: Shape,
+    state_u: &mut [u32],
+    state_f: &mut [f32],
+) -> Cursor {
+    buffers::zero_words(state_u);
+    states::read_state(text, c, s.n, s.k, state_u, state_f)
+}
+
+// A single iteration: `c` is the place of its state.
+fn single(
+    text: &[u8],
+    c: Cursor,
+    s: Shape,
+    lanes: &[f32],
+    state_u: &mut [u32],
+    state_f: &mut [f32],
+) -> Outcome {
+    let draws = read_given(text, c, s, state_u, state_f);
+    let o = fresh(kinds::pass_runs(text, draws, 1));
+    let t = turn(text, draws, o, s, lanes, state_u, state_f);
+    t.outcome
+}
+
+// The case's lanes, read into a slice of their length.
+fn given(
+    text: &[u8],
+    kind: u32,
+    s: Shape,
+    lanes: &mut [f32],
+    state_u: &mut [u32],
+    state_f: &mut [f32],
+) -> Outcome {
+    let c = cases::read_floats(text, s.cursor, lanes);
+    if kind == DESCENT {
+        return descended(text, c, s, lanes, state_u, state_f);
+    }
+    single(text, c, s, lanes, state_u, state_f)
+}
+
+// The parts of our places that the case asks for; what is too long for them is cut, and so refused.
+fn lent(
+    text: &[u8],
+    kind: u32,
+    s: Shape,
+    lanes: &mut [f32],
+    state_u: &mut [u32],
+    state_f: &mut [f32],
+) -> Outcome {
+    let lists = cases::area(s.n, s.k);
+    let words = lists + cases::area(260, s.n) + (cases::area(s.n, s.n) + 31) / 32;
+    let lanes_long = cases::least(cases::area(s.n, s.dimension), lanes.len());
+    let words_long = cases::least(words, state_u.len());
+    let floats_long = cases::least(lists, state_f.len());
+    given(
+        text,
+        kind,
+        s,
+        &mut lanes[..lanes_long],
+        &mut state_u[..words_long],
+        &mut state_f[..floats_long],
+    )
+}
+
+fn one_case(text: &[u8], kind: u32, c: Cursor) -> Outcome {
+    let s = read_shape(text, c);
+    let mut lanes = [0.0f32; 256];
+    let mut state_u = [JUNK; 12648];
+    let mut state_f = [1.5f32; 192];
+    lent(text, kind, s, &mut lanes, &mut state_u, &mut state_f)
+}
+
+fn is_ours(kind: u32) -> bool {
+    if kind == DESCENT {
+        return true;
+    }
+    kind == ITERATION
+}
+
+// A proved loop has to end: it counts its turns down, from more cases than a list has.
+fn replayed(text: &[u8]) -> Tally {
+    let mut left: u32 = 65536;
+    let mut t = tallies::none();
+    while left > 0 {
+        let case = replays::next_case(text, t.cursor, t.compared);
+        let cursor = case.cursor;
+        if !is_ours(case.kind) {
+            return tallies::ended(t, case.kind, cursor);
+        }
+        let o = one_case(text, case.kind, cursor);
+        let next = tallies::with_case(t, o);
+        t = next;
+        left -= 1;
+    }
+    t
+}
+
+fn main() {
+    let mut room = cases::room();
+    let n = io::read_full(0, &mut room);
+    tallies::print(b"descents compared: ", replayed(&room[..n]));
+}
