@@ -99,10 +99,10 @@ pub fn same_words(a: &[u32], b: &[u32]) -> bool {
     same_first(a, b, a.len())
 }
 
-// Whether two floats have the same bits, and neither is a NaN.
+// Whether two floats have the same bits; a NaN is as any other.
 fn same_bits(a: f32, b: f32) -> bool {
     if a != a {
-        return false;
+        return b != b;
     }
     if b != b {
         return false;
@@ -110,7 +110,7 @@ fn same_bits(a: f32, b: f32) -> bool {
     f32::to_bits(a) == f32::to_bits(b)
 }
 
-/// Whether two slices hold the same floats, bit for bit, and no NaN.
+/// Whether two slices hold the same floats, bit for bit; a NaN is as any other.
 pub fn same_floats(a: &[f32], b: &[f32]) -> bool {
     if a.len() != b.len() {
         return false;

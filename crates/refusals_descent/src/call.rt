@@ -1,0 +1,399 @@
+// A call of `begin` or `iterate` on lent places, and its line: what it answered, and what became of the places.
+ghost use Prim.Native.Nat.{_≤_};
+use libc::STDOUT_FILENO;
+use refusals::Left;
+use rules::Answer;
+use rules::IterateAnswer;
+
+// What the first places of a begin's state hold before the call; each further place holds one more.
+const WORDS: u32 = 0xCD00_0000;
+
+const FLOATS: f32 = 2.5;
+
+/// Which entry is called, whether the state that it leaves is printed, the numbers, and how long each slice is that it lends.
+pub struct Call {
+    pub begins: bool,
+    pub shown: bool,
+    pub dimension: usize,
+    pub n: usize,
+    pub k: usize,
+    pub s: usize,
+    pub lanes: usize,
+    pub draws: usize,
+    pub state_u: usize,
+    pub state_f: usize,
+    pub words: usize,
+    pub floats: usize,
+}
+
+/// The distance of an unfilled entry.
+pub fn empty() -> f32 {
+    cases::float(0x7F7F_FFFF)
+}
+
+// Fills the first places, as many as there are.
+fn fill_nodes(words: &mut [u32], count: usize, node: u32) {
+    let mut i: usize = 0;
+    while i < count {
+        if words.len() <= i {
+            return;
+        }
+        words[i] = node;
+        i += 1;
+    }
+}
+
+fn fill_empty(floats: &mut [f32]) {
+    let mut i: usize = 0;
+    while i < floats.len() {
+        floats[i] = empty();
+        i += 1;
+    }
+}
+
+/// Writes a word, where there is such a place.
+pub fn put_at(words: &mut [u32], at: usize, word: u32) {
+    if at < words.len() {
+        words[at] = word;
+    }
+}
+
+/// Writes an entry of a list, where there is such a place.
+pub fn put_entry(words: &mut [u32], floats: &mut [f32], at: usize, node: u32, distance: f32) {
+    put_at(words, at, node);
+    if at < floats.len() {
+        floats[at] = distance;
+    }
+}
+
+// The context of node 0: a new and a reversed-new member.
+fn put_context(words: &mut [u32], lists: usize, n: usize)
+    requires { ⌜ lists ≤ 4294967296 ⌝ }
+{
+    put_at(words, lists, 1);
+    put_at(words, lists + 1, 1);
+    put_at(words, lists + 130, 1);
+    if n > 2 {
+        put_at(words, lists + 131, 2);
+    }
+}
+
+// Lists 0 and 3 of the usual state; the others stay unfilled.
+fn put_lists(words: &mut [u32], floats: &mut [f32]) {
+    put_entry(words, floats, 0, 1, 1.0);
+    put_entry(words, floats, 1, 2, 9.0);
+    put_entry(words, floats, 6, 2, 16.0);
+}
+
+fn write_formed(c: Call, words: &mut [u32], floats: &mut [f32]) {
+    buffers::zero_words(words);
+    fill_empty(floats);
+    if c.n > 1024 {
+        return;
+    }
+    let lists = cases::area(c.n, c.k);
+    fill_nodes(words, lists, c.n as u32);
+    put_context(words, lists, c.n);
+}
+
+fn is_usual(c: Call) -> bool {
+    if c.n == 4 {
+        return c.k == 2;
+    }
+    false
+}
+
+/// Writes the state that a call is lent: junk for a begin; for an iteration unfilled lists (the usual ones where it has four nodes and k
+/// 2), and node 0 with new 1 and reversed-new 2, or 0 where there is no node 2.
+pub fn write_state(c: Call, words: &mut [u32], floats: &mut [f32]) {
+    if c.begins {
+        refusals::fill_words(words, WORDS);
+        refusals::fill_floats(floats, FLOATS);
+        return;
+    }
+    write_formed(c, words, floats);
+    if is_usual(c) {
+        put_lists(words, floats);
+    }
+}
+
+fn put_nonzero(words: &[u32]) {
+    let mut i: usize = 0;
+    while i < words.len() {
+        if words[i] != 0 {
+            refusals::put(b" ", i);
+            refusals::put_word(b"=", words[i]);
+        }
+        i += 1;
+    }
+}
+
+// The list nodes, and each word behind them that is not zero, with its place.
+fn put_state(c: Call, state_u: &[u32]) {
+    let lists = cases::least(cases::area(c.n, c.k), state_u.len());
+    refusals::put_graph(&state_u[..lists], c.k);
+    put_nonzero(&state_u[lists..]);
+}
+
+fn put_counts(c: Call, cost: usize, new: usize) {
+    if c.begins {
+        io::write_all(STDOUT_FILENO, b": done");
+        return;
+    }
+    refusals::put(b": ", cost);
+    refusals::put(b",", new);
+}
+
+fn said(c: Call, answer: IterateAnswer, state_u: &[u32]) {
+    match answer {
+        IterateAnswer::Iterated { cost, new } => {
+            put_counts(c, cost, new);
+            if c.shown {
+                put_state(c, state_u);
+            }
+        }
+        IterateAnswer::Refused(r) => refusals::put_refusal(r),
+    }
+    ;
+}
+
+// Whether the state stands as it was given.
+fn stands(state_u: &[u32], state_f: &[f32], given_u: &[u32], given_f: &[f32]) -> bool {
+    if states::same_words(state_u, given_u) {
+        return states::same_floats(state_f, given_f);
+    }
+    false
+}
+
+// What became of the lent places: a refusal leaves the state too.
+fn left(answer: IterateAnswer, stands: bool, words: &[u32], floats: &[f32]) -> Left {
+    match answer {
+        IterateAnswer::Iterated { cost: _, new: _ } => refusals::scratch_left(words, floats),
+        IterateAnswer::Refused(_) => {
+            if stands {
+                return refusals::scratch_left(words, floats);
+            }
+            Left::Written
+        }
+    }
+}
+
+fn put_name(c: Call, name: &[u8]) {
+    if c.begins {
+        io::write_all(STDOUT_FILENO, b"begin ");
+    } else {
+        io::write_all(STDOUT_FILENO, b"iterate ");
+    }
+    io::write_all(STDOUT_FILENO, name);
+}
+
+// The call. A begin answers no counts.
+fn asked(
+    c: Call,
+    lanes: &[f32],
+    draws: &[u32],
+    state_u: &mut [u32],
+    state_f: &mut [f32],
+    words: &mut [u32],
+    floats: &mut [f32],
+) -> IterateAnswer {
+    if c.begins {
+        let begun = descent::begin(
+            c.dimension,
+            c.n,
+            lanes,
+            c.k,
+            c.s,
+            draws,
+            state_u,
+            state_f,
+            words,
+            floats,
+        );
+        return match begun {
+            Answer::Done => IterateAnswer::Iterated { cost: 0, new: 0 },
+            Answer::Refused(r) => IterateAnswer::Refused(r),
+        };
+    }
+    iterate::iterate(
+        c.dimension,
+        c.n,
+        lanes,
+        c.k,
+        c.s,
+        draws,
+        state_u,
+        state_f,
+        words,
+        floats,
+    )
+}
+
+/// The call on the slices it lends, scratch full of junk; `given_u` and `given_f` are its state as it was.
+pub fn called(
+    name: &[u8],
+    c: Call,
+    lanes: &[f32],
+    draws: &[u32],
+    given_u: &[u32],
+    given_f: &[f32],
+    state_u: &mut [u32],
+    state_f: &mut [f32],
+    words: &mut [u32],
+    floats: &mut [f32],
+) {
+    refusals::fill_scratch(words, floats);
+    let answer = asked(c, lanes, draws, state_u, state_f, words, floats);
+    put_name(c, name);
+    said(c, answer, state_u);
+    let as_given = stands(state_u, state_f, given_u, given_f);
+    refusals::put_left(left(answer, as_given, words, floats));
+}
+
+// The given state, copied to the places that are lent.
+fn copy_state(given_u: &[u32], given_f: &[f32], state_u: &mut [u32], state_f: &mut [f32]) {
+    if given_u.len() < state_u.len() {
+        return;
+    }
+    if given_f.len() < state_f.len() {
+        return;
+    }
+    buffers::copy_words(state_u.len(), given_u, state_u);
+    buffers::copy_floats(state_f.len(), given_f, state_f);
+}
+
+// The call on a copy of the given state.
+fn on_copy(
+    name: &[u8],
+    c: Call,
+    lanes: &[f32],
+    draws: &[u32],
+    given_u: &[u32],
+    given_f: &[f32],
+    state_u: &mut [u32],
+    state_f: &mut [f32],
+    words: &mut [u32],
+    floats: &mut [f32],
+) {
+    copy_state(given_u, given_f, state_u, state_f);
+    called(
+        name,
+        c,
+        lanes,
+        draws,
+        given_u,
+        given_f,
+        state_u,
+        state_f,
+        words,
+        floats,
+    );
+}
+
+// The call on parts of our own state that are as long as what is given.
+fn with_state(
+    name: &[u8],
+    c: Call,
+    lanes: &[f32],
+    draws: &[u32],
+    given_u: &[u32],
+    given_f: &[f32],
+    words: &mut [u32],
+    floats: &mut [f32],
+) {
+    let mut state_u = [0u32; 2098];
+    let mut state_f = [0.0f32; 256];
+    let u_long = cases::least(given_u.len(), state_u.len());
+    let f_long = cases::least(given_f.len(), state_f.len());
+    on_copy(
+        name,
+        c,
+        lanes,
+        draws,
+        given_u,
+        given_f,
+        &mut state_u[..u_long],
+        &mut state_f[..f_long],
+        words,
+        floats,
+    );
+}
+
+// The call on the parts of given places and of our own that are as long as it says.
+fn cut(
+    name: &[u8],
+    c: Call,
+    lanes: &[f32],
+    draws: &[u32],
+    given_u: &[u32],
+    given_f: &[f32],
+    words: &mut [u32],
+    floats: &mut [f32],
+) {
+    let lanes_long = cases::least(c.lanes, lanes.len());
+    let draws_long = cases::least(c.draws, draws.len());
+    let u_long = cases::least(c.state_u, given_u.len());
+    let f_long = cases::least(c.state_f, given_f.len());
+    let words_long = cases::least(c.words, words.len());
+    let floats_long = cases::least(c.floats, floats.len());
+    with_state(
+        name,
+        c,
+        &lanes[..lanes_long],
+        &draws[..draws_long],
+        &given_u[..u_long],
+        &given_f[..f_long],
+        &mut words[..words_long],
+        &mut floats[..floats_long],
+    );
+}
+
+/// A call on given lanes and a given state, and on scratch of our own; the draws are 6, 7, 8 and so on.
+pub fn lend(name: &[u8], c: Call, lanes: &[f32], given_u: &[u32], given_f: &[f32]) {
+    let mut draws = [0u32; 513];
+    let mut words = [0u32; 8192];
+    let mut floats = [0.0f32; 8192];
+    refusals::fill_words(&mut draws, 6);
+    cut(
+        name,
+        c,
+        lanes,
+        &draws,
+        given_u,
+        given_f,
+        &mut words,
+        &mut floats,
+    );
+}
+
+/// A call on given lanes and the state that fits its numbers.
+pub fn on_lanes(name: &[u8], c: Call, lanes: &[f32]) {
+    let mut given_u = [0u32; 2098];
+    let mut given_f = [0.0f32; 256];
+    write_state(c, &mut given_u, &mut given_f);
+    lend(name, c, lanes, &given_u, &given_f);
+}
+
+/// A call on the settled squares' lanes, with more behind them.
+pub fn on(name: &[u8], c: Call) {
+    let lanes = [0.0f32, 1.0, 3.0, 7.0, 15.0, 31.0, 63.0, 127.0];
+    on_lanes(name, c, &lanes);
+}
+
+/// Four nodes, k 2 and s 1, with the lengths that fit them.
+pub fn usual(begins: bool) -> Call {
+    Call {
+        begins: begins,
+        shown: false,
+        dimension: 1,
+        n: 4,
+        k: 2,
+        s: 1,
+        lanes: 4,
+        draws: 17,
+        state_u: 1049,
+        state_f: 8,
+        words: 6144,
+        floats: 6144,
+    }
+}
