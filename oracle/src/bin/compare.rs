@@ -1,10 +1,11 @@
 //! Runs generated calls through the proved entries and through hora's Rust, and says what ran, what differed and what was met.
 
 use oracle::compare::lend::Library;
+use oracle::compare::parts::Bench;
 use oracle::compare::tally::Tally;
 use oracle::compare::{build, descent, relay, search};
 
-type All = fn(&mut Library, &mut Tally, u64, u64);
+type All = fn(&mut Bench);
 
 /// The case modules by name, and the beginnings of the branches that each can meet (begin meets none).
 static MODULES: [(&str, All, &[&str]); 4] = [
@@ -27,7 +28,12 @@ impl Run<'_> {
         let mut library = Library::start(self.program, spoils);
         let mut tally = Tally::new(if spoils { 0 } else { 20 });
         for (_, all, _) in self.modules() {
-            all(&mut library, &mut tally, self.seed, part);
+            all(&mut Bench {
+                library: &mut library,
+                tally: &mut tally,
+                seed: self.seed,
+                part,
+            });
         }
         library.end();
         tally

@@ -1,7 +1,7 @@
 //! Builds through both sides: random ones, those kept by hand, large ones, and damaged ones judged by 01's table.
 
-use super::lend::{Call, Library, Outcome, BUILD};
-use super::tally::{uncounted, Tally};
+use super::lend::{Call, Outcome, BUILD};
+use super::parts::{Bench, Judged};
 use super::{damage, fill, table};
 use crate::by_hand;
 use crate::cases::*;
@@ -48,6 +48,23 @@ impl Lent {
         }
     }
 
+    /// hora's graph.
+    fn rust(&self) -> Vec<u32> {
+        run::graph_of(&Build {
+            lanes: Lanes {
+                dimension: self.dimension as usize,
+                nodes: self.n as usize,
+                bits: self.lanes.clone(),
+            },
+            init_k: self.init_k as usize,
+            index_size: self.index_size as usize,
+            neighbor_neighbor_size: self.neighbor_neighbor_size as usize,
+            threshold: self.threshold,
+        })
+    }
+}
+
+impl Judged for Lent {
     /// In the order of `spoonmeadow_build`.
     fn call(&self) -> Call {
         let lent = self.clone();
@@ -83,44 +100,13 @@ impl Lent {
             .or_else(|| table::pairs(&self.lanes, self.dimension, n))
     }
 
-    /// hora's graph.
-    fn rust(&self) -> Vec<u32> {
-        run::graph_of(&Build {
-            lanes: Lanes {
-                dimension: self.dimension as usize,
-                nodes: self.n as usize,
-                bits: self.lanes.clone(),
-            },
-            init_k: self.init_k as usize,
-            index_size: self.index_size as usize,
-            neighbor_neighbor_size: self.neighbor_neighbor_size as usize,
-            threshold: self.threshold,
-        })
-    }
-
-    fn expected(&self) -> Outcome {
-        let mut slices = self.call().slices;
-        if let Some((number, first, second)) = self.refusal() {
-            let said = [number, first, second, 0, 0];
-            return Outcome { said, slices };
-        }
+    fn done(&self, mut slices: Vec<Vec<u32>>) -> Outcome {
         slices[1] = self.rust();
         slices[2].fill(0);
         slices[3].fill(0);
         let said = [0; 5];
         Outcome { said, slices }
     }
-}
-
-fn compare(
-    library: &mut Library,
-    tally: &mut Tally,
-    (kind, seed): (&'static str, u64),
-    lent: Lent,
-) {
-    tally.case(kind);
-    let expected = lent.expected();
-    tally.call(library, (kind, seed), &lent.call(), &expected);
 }
 
 fn build_of(case: Case) -> Build {
@@ -130,26 +116,32 @@ fn build_of(case: Case) -> Build {
     }
 }
 
+fn small(rng: &mut Prng) -> Lent {
+    let case = build_of(some::any_build(rng));
+    Lent::of(rng, case)
+}
+
 /// A build of n nodes with any parameters.
-fn sized(rng: &mut Prng, n: usize, dimension: usize, style: Style) -> Build {
+fn sized(rng: &mut Prng, n: usize, dimension: usize, style: Style) -> Lent {
     let lanes = make::lanes(rng, n, dimension, style);
     let threshold = make::threshold(rng, &lanes);
-    Build {
+    let case = Build {
         init_k: rng.pick(&[1, 2, 5, 16, 64]),
         index_size: rng.pick(&[1, 2, 4, 8, 64]),
         neighbor_neighbor_size: rng.pick(&[1, 10, 100, 256]),
         threshold,
         lanes,
-    }
+    };
+    Lent::of(rng, case)
 }
 
-fn larger(rng: &mut Prng) -> Build {
+fn larger(rng: &mut Prng) -> Lent {
     let (n, dimension) = (rng.from_to(25, 200), rng.pick(&[1, 2, 3, 8, 64]));
     let style = make::style(rng);
     sized(rng, n, dimension, style)
 }
 
-fn large(rng: &mut Prng) -> Build {
+fn large(rng: &mut Prng) -> Lent {
     let (n, dimension) = (
         rng.pick(&[512, 512, 520, 600, 777]),
         rng.pick(&[1, 2, 3, 8]),
@@ -158,7 +150,7 @@ fn large(rng: &mut Prng) -> Build {
     sized(rng, n, dimension, style)
 }
 
-fn largest(rng: &mut Prng) -> Build {
+fn largest(rng: &mut Prng) -> Lent {
     let style = rng.pick(&[Style::Plain, Style::Grid(40), Style::Huge, Style::Mixed]);
     let dimension = rng.pick(&[1, 1, 2, 4]);
     sized(rng, 4096, dimension, style)
@@ -183,7 +175,7 @@ fn harm(rng: &mut Prng, c: &mut Lent) {
         9 => damage::shorten(rng, &mut c.words, scratch),
         10 => damage::shorten(rng, &mut c.floats, scratch),
         11 => damage::lane(rng, &mut c.lanes),
-        _ => harm_edge(rng, c),
+        _ => damage::edge_nodes(rng, &mut c.lanes, c.dimension),
     }
 }
 
@@ -203,61 +195,32 @@ fn bad_threshold(rng: &mut Prng) -> u32 {
     ])
 }
 
-/// Two nodes whose distance is at the end of the fit ones.
-fn harm_edge(rng: &mut Prng, c: &mut Lent) {
-    let dimension = c.dimension.min(64) as usize;
-    if dimension == 0 || c.lanes.len() < 2 * dimension {
-        return;
-    }
-    let i = rng.below(c.lanes.len() / dimension - 1);
-    let (before, behind) = c.lanes.split_at_mut((i + 1) * dimension);
-    damage::edge(&mut before[i * dimension..], &mut behind[..dimension]);
-}
-
 fn damaged(rng: &mut Prng) -> Lent {
-    let case = build_of(some::any_build(rng));
-    let mut lent = Lent::of(rng, case);
-    let times = rng.pick(&[1, 1, 1, 2, 3]);
-    (0..times).for_each(|_| harm(rng, &mut lent));
-    lent
+    let lent = small(rng);
+    damage::some(rng, lent, harm)
 }
 
 /// The builds kept by hand, which read a stale live slot or tell readings of step 2 apart.
-fn kept(library: &mut Library, tally: &mut Tally, seed: u64) {
+fn kept(bench: &mut Bench) {
+    let kind = ("builds kept by hand", bench.seed);
     let hands = by_hand::STALE.iter().chain(&by_hand::WALK);
     for hand in hands.chain([&by_hand::READING]) {
         let case = build_of(by_hand::by_hand(hand));
-        let lent = Lent::of(&mut Prng::new(seed), case);
-        compare(library, tally, ("builds kept by hand", seed), lent);
+        bench.tally.case(kind.0);
+        bench.lend(kind, Lent::of(&mut Prng::new(kind.1), case));
     }
 }
 
-/// All builds; `part` of them where that is more than 1.
-pub fn all(library: &mut Library, tally: &mut Tally, seed: u64, part: u64) {
-    kept(library, tally, seed);
-    type Maker = fn(&mut Prng) -> Build;
-    let small: Maker = |rng| build_of(some::any_build(rng));
-    let kinds: [(&'static str, u64, Maker); 4] = [
-        ("builds, n to 24", 15_000, small),
-        ("builds, n 25 to 200", 1_000, larger),
-        ("builds, n 512 to 777", 500, large),
-        ("builds, n 4,096", 20, largest),
-    ];
-    let mut at = seed;
-    for (kind, count, maker) in kinds {
-        for _ in 0..count / part {
-            at += 1;
-            let rng = &mut Prng::new(at);
-            let lent = uncounted(|| {
-                let case = maker(rng);
-                Lent::of(rng, case)
-            });
-            compare(library, tally, (kind, at), lent);
-        }
-    }
-    for _ in 0..10_000 / part {
-        at += 1;
-        let lent = uncounted(|| damaged(&mut Prng::new(at)));
-        compare(library, tally, ("builds, damaged", at), lent);
-    }
+pub fn all(bench: &mut Bench) {
+    kept(bench);
+    bench.each(
+        &[
+            ("builds, n to 24", 15_000, small),
+            ("builds, n 25 to 200", 1_000, larger),
+            ("builds, n 512 to 777", 500, large),
+            ("builds, n 4,096", 20, largest),
+            ("builds, damaged", 10_000, damaged),
+        ],
+        Bench::lend,
+    );
 }

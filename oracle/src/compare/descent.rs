@@ -1,15 +1,13 @@
 //! Begin and an iteration: what they are lent, and what 01 and hora's Rust say of it; begins through both sides.
 
-use super::lend::{Call, Library, Outcome, BEGIN, ITERATE};
-use super::tally::{uncounted, Tally};
+use super::lend::{Call, Outcome, BEGIN, ITERATE};
+use super::parts::{Bench, Judged};
 use super::{damage, fill, state, table};
 use crate::cases::*;
 use crate::make;
 use crate::prng::Prng;
 use crate::run;
 use crate::some;
-
-pub type Kind = (&'static str, u64);
 
 /// Begin or an iteration with everything that it is lent.
 #[derive(Clone)]
@@ -61,6 +59,39 @@ impl Lent {
         self.floats = fill::nans(rng, self.floats.len());
     }
 
+    fn lanes(&self) -> Lanes {
+        Lanes {
+            dimension: self.dimension as usize,
+            nodes: self.n as usize,
+            bits: self.lanes.clone(),
+        }
+    }
+
+    /// hora's counts and state.
+    fn rust(&self) -> ([u64; 2], State) {
+        let (k, s) = (self.k as usize, self.s as usize);
+        if self.entry == BEGIN {
+            let (begun, _) = run::descended(&Descent {
+                lanes: self.lanes(),
+                k,
+                s,
+                begin_draws: self.draws.clone(),
+                iteration_draws: Vec::new(),
+            });
+            return ([0, 0], begun);
+        }
+        let done = run::iterated(&Iterate {
+            lanes: self.lanes(),
+            k,
+            s,
+            state: state::descent_in(self.n, self.k, &self.state_u, &self.state_f),
+            draws: self.draws.clone(),
+        });
+        ([done.cost as u64, done.total_of_new as u64], done.state)
+    }
+}
+
+impl Judged for Lent {
     /// In the order of `spoonmeadow_begin` and `spoonmeadow_iterate`.
     fn call(&self) -> Call {
         let lent = self.clone();
@@ -104,64 +135,14 @@ impl Lent {
             })
     }
 
-    fn lanes(&self) -> Lanes {
-        Lanes {
-            dimension: self.dimension as usize,
-            nodes: self.n as usize,
-            bits: self.lanes.clone(),
-        }
-    }
-
-    /// hora's counts and state.
-    fn rust(&self) -> ([u64; 2], State) {
-        let (k, s) = (self.k as usize, self.s as usize);
-        if self.entry == BEGIN {
-            let (begun, _) = run::descended(&Descent {
-                lanes: self.lanes(),
-                k,
-                s,
-                begin_draws: self.draws.clone(),
-                iteration_draws: Vec::new(),
-            });
-            return ([0, 0], begun);
-        }
-        let done = run::iterated(&Iterate {
-            lanes: self.lanes(),
-            k,
-            s,
-            state: state::descent_in(self.n, self.k, &self.state_u, &self.state_f),
-            draws: self.draws.clone(),
-        });
-        ([done.cost as u64, done.total_of_new as u64], done.state)
-    }
-
-    fn expected(&self) -> Outcome {
-        let mut slices = self.call().slices;
-        if let Some((number, first, second)) = self.refusal() {
-            let said = [number, first, second, 0, 0];
-            return Outcome { said, slices };
-        }
+    fn done(&self, mut slices: Vec<Vec<u32>>) -> Outcome {
         let ([cost, new], left) = self.rust();
-        let (words, bits) = state::descent(&left);
-        slices[2] = words;
-        slices[3] = bits;
+        (slices[2], slices[3]) = state::descent(&left);
         slices[4].fill(0);
         slices[5].fill(0);
         let said = [0, 0, 0, cost, new];
         Outcome { said, slices }
     }
-}
-
-/// One call; the state that it left.
-pub fn compare(
-    library: &mut Library,
-    tally: &mut Tally,
-    kind: Kind,
-    lent: &Lent,
-) -> (Vec<u32>, Vec<u32>) {
-    let mut left = tally.call(library, kind, &lent.call(), &lent.expected());
-    let bits = left.slices.swap_remove(3);
-    (left.slices.swap_remove(2), bits)
 }
 
 pub fn descent_of(case: Case) -> Descent {
@@ -171,7 +152,7 @@ pub fn descent_of(case: Case) -> Descent {
     }
 }
 
-const HARMS: usize = 13;
+const HARMS: usize = 14;
 
 /// Harms one place of what begin or an iteration is lent.
 pub fn harm(rng: &mut Prng, c: &mut Lent) {
@@ -188,7 +169,8 @@ pub fn harm(rng: &mut Prng, c: &mut Lent) {
         8 => damage::shorten(rng, &mut c.words, scratch),
         9 => damage::shorten(rng, &mut c.floats, scratch),
         10 => damage::lane(rng, &mut c.lanes),
-        11 => damage::length(rng, &mut c.draws),
+        11 => damage::edge_nodes(rng, &mut c.lanes, c.dimension),
+        12 => damage::length(rng, &mut c.draws),
         _ => damage::state(rng, &mut c.state_u, &mut c.state_f, c.n as u32),
     }
 }
@@ -209,27 +191,17 @@ fn small(rng: &mut Prng) -> Lent {
 }
 
 fn damaged(rng: &mut Prng) -> Lent {
-    let mut lent = small(rng);
-    let times = rng.pick(&[1, 1, 1, 2, 3]);
-    (0..times).for_each(|_| harm(rng, &mut lent));
-    lent
+    let lent = small(rng);
+    damage::some(rng, lent, harm)
 }
 
-/// All begins; one `part`th of them.
-pub fn all(library: &mut Library, tally: &mut Tally, seed: u64, part: u64) {
-    type Maker = fn(&mut Prng) -> Lent;
-    let kinds: [(&'static str, u64, Maker); 3] = [
-        ("begins, n to 16", 4_000, small),
-        ("begins, n to 400", 200, larger),
-        ("begins, damaged", 4_000, damaged),
-    ];
-    let mut at = seed;
-    for (kind, count, maker) in kinds {
-        for _ in 0..count / part {
-            at += 1;
-            let lent = uncounted(|| maker(&mut Prng::new(at)));
-            tally.case(kind);
-            compare(library, tally, (kind, at), &lent);
-        }
-    }
+pub fn all(bench: &mut Bench) {
+    bench.each(
+        &[
+            ("begins, n to 16", 4_000, small),
+            ("begins, n to 400", 200, larger),
+            ("begins, damaged", 4_000, damaged),
+        ],
+        Bench::lend,
+    );
 }

@@ -1,5 +1,6 @@
 //! The proved entries, reached through the C program that is linked with them (`lend.c`): a call, and all that it said and left.
 
+use super::table::Code;
 use std::io::{BufReader, BufWriter, Read, Write};
 use std::process::{Child, ChildStdin, ChildStdout, Command, Stdio};
 
@@ -11,6 +12,7 @@ pub const BUILD: u64 = 1;
 pub const SEARCH: u64 = 2;
 pub const BEGIN: u64 = 3;
 pub const ITERATE: u64 = 4;
+pub const OPEN: u64 = 5;
 pub const MOVE: u64 = 6;
 pub const CLOSE: u64 = 7;
 
@@ -27,6 +29,14 @@ pub struct Call {
 pub struct Outcome {
     pub said: [u64; 5],
     pub slices: Vec<Vec<u32>>,
+}
+
+impl Outcome {
+    /// "A refusal has counts 0 and changes no lent byte"
+    pub fn refused((number, first, second): Code, slices: Vec<Vec<u32>>) -> Self {
+        let said = [number, first, second, 0, 0];
+        Outcome { said, slices }
+    }
 }
 
 /// An outcome, and whether every guard word is whole.

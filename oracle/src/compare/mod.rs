@@ -5,6 +5,7 @@ pub mod damage;
 pub mod descent;
 pub mod fill;
 pub mod lend;
+pub mod parts;
 pub mod plain;
 pub mod relay;
 pub mod search;

@@ -1,17 +1,15 @@
 //! Relays through both sides: moved in seeded orders with stray calls between, and closed; the state held after every call.
 
-use super::lend::{Call, Library, Outcome, CLOSE, MOVE};
+use super::lend::{Call, Outcome, CLOSE, MOVE};
+use super::parts::{Bench, Kind};
 use super::state::split;
 use super::steps::{relay_floats, relay_words, Steps};
-use super::tally::{uncounted, Tally};
 use super::{damage, fill, table};
 use crate::cases::*;
 use crate::make::{self, Order};
 use crate::prng::Prng;
 use crate::run;
 use crate::some;
-
-pub type Kind = (&'static str, u64);
 
 /// A relay's state as it is lent to a move or a close.
 #[derive(Clone)]
@@ -138,43 +136,35 @@ fn stray(rng: &mut Prng, lent: &Lent, jobs: usize) -> (Call, Outcome) {
     lent.moving(job)
 }
 
-/// Moved in the case's order from its opening, and closed; lists and reports are hora's. One move in `often` has a stray call before it.
-fn whole(library: &mut Library, tally: &mut Tally, kind: Kind, c: &Relay, often: usize) {
-    tally.case(kind.0);
+/// Moved in the case's order from its opening, and closed; lists and reports are hora's. Stray calls come between.
+fn whole(bench: &mut Bench, kind: Kind, c: Relay) {
     let rng = &mut Prng::new(kind.1);
-    let rust = run::relay(c);
-    let mut steps = Steps::opened(c);
+    let often = if c.jobs.len() < 16 { 4 } else { 16 };
+    let rust = run::relay(&c);
+    let mut steps = Steps::opened(&c);
     let (words, bits) = steps.written();
     let (n, k) = (c.lanes.nodes as u64, c.k as u64);
     let mut lent = Lent { n, k, words, bits };
     for (job, (node, list)) in c.moves.iter().zip(&rust.moved) {
         if rng.one_in(often) {
             let (call, outcome) = stray(rng, &lent, c.jobs.len());
-            tally.call(library, kind, &call, &outcome);
+            bench.call(kind, &call, &outcome);
         }
         let (call, outcome) = lent.moving(*job as u64);
-        let left = tally.call(library, kind, &call, &outcome);
+        let left = bench.call(kind, &call, &outcome);
         [lent.words, lent.bits] = left.slices.try_into().expect("two slices");
         steps.step(*job as usize);
         let plain: Vec<Entry> = steps.lists[*node].iter().map(|e| (e.1, e.0)).collect();
         if plain != *list {
-            tally.differs(
-                kind.0,
-                kind.1,
-                "the plain reading of a step is not the Rust's list",
-            );
+            bench.differs(kind, "the plain reading of a step is not the Rust's list");
         }
     }
     let (call, outcome) = closing(rng, &lent, (n * k) as usize);
-    let left = tally.call(library, kind, &call, &outcome);
+    let left = bench.call(kind, &call, &outcome);
     let (nodes, bits) = split(&rust.lists);
     let reports = &left.slices[4][..rust.reports.len()];
     if left.slices[2] != nodes || left.slices[3] != bits || reports != rust.reports {
-        tally.differs(
-            kind.0,
-            kind.1,
-            "a close did not give the Rust's lists and reports",
-        );
+        bench.differs(kind, "a close did not give the Rust's lists and reports");
     }
 }
 
@@ -183,6 +173,10 @@ pub fn relay_of(case: Case) -> Relay {
         Case::Relay(c) => c,
         _ => panic!("a relay"),
     }
+}
+
+fn few_jobs(rng: &mut Prng) -> Relay {
+    relay_of(some::any_relay(rng))
 }
 
 /// 16 to 64 jobs on few nodes, so that they meet.
@@ -194,20 +188,12 @@ fn many_jobs(rng: &mut Prng) -> Relay {
     relay
 }
 
-/// All relays; one `part`th of them.
-pub fn all(library: &mut Library, tally: &mut Tally, seed: u64, part: u64) {
-    type Maker = fn(&mut Prng) -> Relay;
-    let small: Maker = |rng| relay_of(some::any_relay(rng));
-    let kinds: [(&'static str, u64, usize, Maker); 2] = [
-        ("relays, 1 to 7 jobs", 3_000, 4, small),
-        ("relays, 16 to 64 jobs", 2_000, 16, many_jobs),
-    ];
-    let mut at = seed;
-    for (kind, count, often, maker) in kinds {
-        for _ in 0..count / part {
-            at += 1;
-            let case = uncounted(|| maker(&mut Prng::new(at)));
-            whole(library, tally, (kind, at), &case, often);
-        }
-    }
+pub fn all(bench: &mut Bench) {
+    bench.each(
+        &[
+            ("relays, 1 to 7 jobs", 3_000, few_jobs),
+            ("relays, 16 to 64 jobs", 2_000, many_jobs),
+        ],
+        whole,
+    );
 }

@@ -1,8 +1,8 @@
 //! Searches through both sides: random ones, large ones, and damaged ones judged by 01's table.
 
-use super::lend::{Call, Library, Outcome, SEARCH};
+use super::lend::{Call, Outcome, SEARCH};
+use super::parts::{Bench, Judged, Kind};
 use super::plain::{Searched, Walked};
-use super::tally::{uncounted, Tally};
 use super::{damage, fill, table};
 use crate::cases::*;
 use crate::make::{self, Style};
@@ -48,6 +48,47 @@ impl Lent {
         }
     }
 
+    fn walked(&self) -> Walked {
+        Searched {
+            dimension: self.dimension as usize,
+            n: self.n as usize,
+            lanes: &self.lanes,
+            graph: &self.graph,
+            index_size: self.index_size as usize,
+            roots: &self.roots,
+            query: &self.query,
+            k: self.k as usize,
+        }
+        .walked()
+    }
+
+    /// hora's answer; lanes that are not finite are never worked out here, and hora takes none.
+    fn rust(&self) -> run::Found {
+        run::found(&Search {
+            lanes: Lanes {
+                dimension: self.dimension as usize,
+                nodes: self.n as usize,
+                bits: damage::finite(&self.lanes),
+            },
+            index_size: self.index_size as usize,
+            k: self.k as usize,
+            roots: self.roots.clone(),
+            query: self.query.clone(),
+            graph: self.graph.clone(),
+        })
+    }
+
+    /// Whether the plain reading's outcome is the Rust's answer.
+    fn is_rust(&self, plain: &Outcome) -> bool {
+        let found = self.rust();
+        let m = found.nodes.len();
+        plain.said == [0, 0, 0, m as u64, found.takings as u64]
+            && plain.slices[4][..m] == found.nodes
+            && plain.slices[5][..m] == found.bits
+    }
+}
+
+impl Judged for Lent {
     /// In the order of `spoonmeadow_search`.
     fn call(&self) -> Call {
         let lent = self.clone();
@@ -87,78 +128,31 @@ impl Lent {
             .or_else(|| table::query(self.dimension, self.query.len()))
     }
 
-    fn walked(&self) -> Walked {
-        Searched {
-            dimension: self.dimension as usize,
-            n: self.n as usize,
-            lanes: &self.lanes,
-            graph: &self.graph,
-            index_size: self.index_size as usize,
-            roots: &self.roots,
-            query: &self.query,
-            k: self.k as usize,
-        }
-        .walked()
-    }
-
-    /// hora's answer; lanes that are not finite are never worked out here, and hora takes none.
-    fn rust(&self) -> Walked {
-        let found = run::found(&Search {
-            lanes: Lanes {
-                dimension: self.dimension as usize,
-                nodes: self.n as usize,
-                bits: damage::finite(&self.lanes),
-            },
-            index_size: self.index_size as usize,
-            k: self.k as usize,
-            roots: self.roots.clone(),
-            query: self.query.clone(),
-            graph: self.graph.clone(),
-        });
-        let best = found.bits.into_iter().zip(found.nodes).collect();
-        Walked::Found(best, found.takings)
-    }
-
-    /// What the call must say and leave, given its walk where no row before it holds.
-    fn expected(&self, walked: Option<&Walked>) -> Outcome {
-        let mut slices = self.call().slices;
-        let said = match (self.refusal(), walked) {
-            (Some((number, first, second)), _) => [number, first, second, 0, 0],
-            (None, Some(Walked::Unfit(v))) => [10, *v as u64, self.n, 0, 0],
-            (None, Some(Walked::Found(best, takings))) => {
+    /// The walk; at its first unfit distance row 10.
+    fn done(&self, mut slices: Vec<Vec<u32>>) -> Outcome {
+        slices[6].fill(0);
+        slices[7].fill(0);
+        match self.walked() {
+            Walked::Unfit(v) => Outcome::refused((10, v as u64, self.n), slices),
+            Walked::Found(best, takings) => {
                 for (i, (bits, node)) in best.iter().enumerate() {
                     slices[4][i] = *node;
                     slices[5][i] = *bits;
                 }
-                [0, 0, 0, best.len() as u64, *takings as u64]
+                let said = [0, 0, 0, best.len() as u64, takings as u64];
+                Outcome { said, slices }
             }
-            (None, None) => panic!("no walk was made"),
-        };
-        if said[0] == 0 || said[0] == 10 {
-            slices[6].fill(0);
-            slices[7].fill(0);
         }
-        Outcome { said, slices }
     }
 }
 
 /// One search through both sides and the plain reading.
-fn compare(
-    library: &mut Library,
-    tally: &mut Tally,
-    (kind, seed): (&'static str, u64),
-    lent: Lent,
-) {
-    tally.case(kind);
-    let walked = lent.refusal().is_none().then(|| lent.walked());
-    if let Some(Walked::Found(..)) = walked {
-        let rust = lent.rust();
-        if walked.as_ref() != Some(&rust) {
-            tally.differs(kind, seed, "the plain reading is not the Rust's answer");
-        }
+fn compare(bench: &mut Bench, kind: Kind, lent: Lent) {
+    let expected = lent.expected();
+    if expected.said[0] == 0 && !lent.is_rust(&expected) {
+        bench.differs(kind, "the plain reading is not the Rust's answer");
     }
-    let expected = lent.expected(walked.as_ref());
-    tally.call(library, (kind, seed), &lent.call(), &expected);
+    bench.call(kind, &lent.call(), &expected);
 }
 
 fn search_of(case: Case) -> Search {
@@ -168,24 +162,23 @@ fn search_of(case: Case) -> Search {
     }
 }
 
+fn small(rng: &mut Prng) -> Lent {
+    let case = search_of(some::any_search(rng));
+    Lent::of(rng, case)
+}
+
 /// Between the small ones and the limits: any sizes within the ranges.
-fn larger(rng: &mut Prng) -> Search {
+fn larger(rng: &mut Prng) -> Lent {
     let n = rng.pick(&[2, 65, 100, 200, 300]);
     let dimension = rng.pick(&[1, 2, 3, 16, 64]);
     let (index_size, k) = (rng.from_to(1, 64), rng.from_to(1, 64));
     let roots = rng.from_to(1, n.min(64));
     let style = make::style(rng);
-    search_of(some::search_at(
-        rng,
-        (n, dimension),
-        style,
-        index_size,
-        k,
-        roots,
-    ))
+    let case = some::search_at(rng, (n, dimension), style, index_size, k, roots);
+    Lent::of(rng, search_of(case))
 }
 
-fn largest(rng: &mut Prng) -> Search {
+fn largest(rng: &mut Prng) -> Lent {
     let style = rng.pick(&[Style::Plain, Style::Grid(40), Style::Mixed]);
     let (n, dimension) = (4096, rng.pick(&[1, 2, 4, 64]));
     let mut lanes = make::lanes(rng, n + 1, dimension, style);
@@ -193,14 +186,15 @@ fn largest(rng: &mut Prng) -> Search {
     lanes.nodes = n;
     let index_size = rng.pick(&[1, 8, 64]);
     let roots = rng.from_to(1, 64);
-    Search {
+    let case = Search {
         index_size,
         k: rng.from_to(1, 64),
         roots: make::distinct(rng, n, roots),
         query,
         graph: make::any_graph(rng, n, index_size),
         lanes,
-    }
+    };
+    Lent::of(rng, case)
 }
 
 const HARMS: usize = 17;
@@ -255,37 +249,18 @@ fn harm_edge(rng: &mut Prng, c: &mut Lent) {
 }
 
 fn damaged(rng: &mut Prng) -> Lent {
-    let case = search_of(some::any_search(rng));
-    let mut lent = Lent::of(rng, case);
-    let times = rng.pick(&[1, 1, 1, 2, 3]);
-    (0..times).for_each(|_| harm(rng, &mut lent));
-    lent
+    let lent = small(rng);
+    damage::some(rng, lent, harm)
 }
 
-/// All searches; `part` of them where that is more than 1.
-pub fn all(library: &mut Library, tally: &mut Tally, seed: u64, part: u64) {
-    type Maker = fn(&mut Prng) -> Search;
-    let small: Maker = |rng| search_of(some::any_search(rng));
-    let kinds: [(&'static str, u64, Maker); 3] = [
-        ("searches, n to 24", 40_000, small),
-        ("searches, sizes to 64, n to 300", 2_000, larger),
-        ("searches, n 4,096", 60, largest),
-    ];
-    let mut at = seed;
-    for (kind, count, maker) in kinds {
-        for _ in 0..count / part {
-            at += 1;
-            let rng = &mut Prng::new(at);
-            let lent = uncounted(|| {
-                let case = maker(rng);
-                Lent::of(rng, case)
-            });
-            compare(library, tally, (kind, at), lent);
-        }
-    }
-    for _ in 0..20_000 / part {
-        at += 1;
-        let lent = uncounted(|| damaged(&mut Prng::new(at)));
-        compare(library, tally, ("searches, damaged", at), lent);
-    }
+pub fn all(bench: &mut Bench) {
+    bench.each(
+        &[
+            ("searches, n to 24", 40_000, small),
+            ("searches, sizes to 64, n to 300", 2_000, larger),
+            ("searches, n 4,096", 60, largest),
+            ("searches, damaged", 20_000, damaged),
+        ],
+        compare,
+    );
 }

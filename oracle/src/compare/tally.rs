@@ -1,6 +1,7 @@
 //! How many cases of each kind ran and differed, which refusals were given, and which seldom branches were met.
 
 use super::lend::{Call, Library, Outcome, Reply};
+use super::parts::Kind;
 use crate::local::branches;
 use std::collections::BTreeMap;
 
@@ -47,7 +48,7 @@ impl Tally {
     }
 
     /// A difference of any sort; the first few are told in full.
-    pub fn differs(&mut self, kind: &'static str, seed: u64, what: &str) {
+    pub fn differs(&mut self, (kind, seed): Kind, what: &str) {
         self.counts(kind).differed += 1;
         if self.to_show > 0 {
             println!("DIFFERS: {}, case seed {}: {}", kind, seed, what);
@@ -59,7 +60,7 @@ impl Tally {
     pub fn call(
         &mut self,
         library: &mut Library,
-        (kind, seed): (&'static str, u64),
+        (kind, seed): Kind,
         call: &Call,
         expected: &Outcome,
     ) -> Outcome {
@@ -70,7 +71,7 @@ impl Tally {
         if let Some(what) = difference(expected, &reply) {
             let what = format!("numbers {:?}: {}", call.numbers, what);
             self.counts(kind).noticed += 1;
-            self.differs(kind, seed, &what);
+            self.differs((kind, seed), &what);
         }
         reply.outcome
     }
