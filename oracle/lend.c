@@ -75,6 +75,10 @@ static void say_found(spoonmeadow_found f) {
     say(f.refusal, f.first, f.second, f.m, f.takings);
 }
 
+static void say_iterated(spoonmeadow_iterated i) {
+    say(i.refusal, i.first, i.second, i.cost, i.total_of_new);
+}
+
 /* One bit of what was said, or of one slice with its guards. */
 static void spoil(size_t slices) {
     uint32_t bit = (uint32_t)1 << rand() % 32;
@@ -99,6 +103,12 @@ static void call(uint64_t entry) {
         break;
     case 3:
         say_said(spoonmeadow_begin(number[0], number[1], F(0), number[2], number[3], U(1), U(2), F(3), U(4), F(5)));
+        break;
+    case 4:
+        say_iterated(spoonmeadow_iterate(number[0], number[1], F(0), number[2], number[3], U(1), U(2), F(3), U(4), F(5)));
+        break;
+    case 5:
+        say_said(spoonmeadow_open(number[0], number[1], F(0), number[2], U(1), F(2), U(3), U(4), F(5), U(6), F(7)));
         break;
     case 6:
         say_said(spoonmeadow_move_job(number[0], number[1], number[2], U(0), F(1)));

@@ -3,15 +3,17 @@
 use oracle::compare::lend::Library;
 use oracle::compare::parts::Bench;
 use oracle::compare::tally::Tally;
-use oracle::compare::{build, descent, relay, search};
+use oracle::compare::{build, descent, iterations, opening, relay, search};
 
 type All = fn(&mut Bench);
 
 /// The case modules by name, and the beginnings of the branches that each can meet (begin meets none).
-static MODULES: [(&str, All, &[&str]); 4] = [
+static MODULES: [(&str, All, &[&str]); 6] = [
     ("build", build::all, &["step", "cosine"]),
     ("search", search::all, &["search"]),
-    ("descent", descent::all, &[]),
+    ("begin", descent::all, &[]),
+    ("iterate", iterations::all, &["descent", "offer"]),
+    ("open", opening::all, &[]),
     ("relay", relay::all, &["offer", "relay"]),
 ];
 
@@ -62,7 +64,7 @@ fn main() {
     let known = |name: &String| MODULES.iter().any(|m| m.0 == name);
     assert!(
         run.named.iter().all(known),
-        "build, search, descent or relay"
+        "build, search, begin, iterate, open or relay"
     );
     let spoiled = run.go(true, run.part.max(100));
     let (calls, noticed) = (spoiled.calls(), spoiled.noticed());

@@ -4,7 +4,7 @@ use super::lend::{Call, Outcome, CLOSE, MOVE};
 use super::parts::{Bench, Kind};
 use super::state::split;
 use super::steps::{relay_floats, relay_words, Steps};
-use super::{damage, fill, table};
+use super::{damage, fill, opening, table};
 use crate::cases::*;
 use crate::make::{self, Order};
 use crate::prng::Prng;
@@ -136,15 +136,13 @@ fn stray(rng: &mut Prng, lent: &Lent, jobs: usize) -> (Call, Outcome) {
     lent.moving(job)
 }
 
-/// Moved in the case's order from its opening, and closed; lists and reports are hora's. Stray calls come between.
+/// Opened, moved in the case's order, and closed; lists and reports are hora's. Stray calls come between.
 fn whole(bench: &mut Bench, kind: Kind, c: Relay) {
     let rng = &mut Prng::new(kind.1);
     let often = if c.jobs.len() < 16 { 4 } else { 16 };
     let rust = run::relay(&c);
     let mut steps = Steps::opened(&c);
-    let (words, bits) = steps.written();
-    let (n, k) = (c.lanes.nodes as u64, c.k as u64);
-    let mut lent = Lent { n, k, words, bits };
+    let mut lent = opening::open(bench, kind, &c);
     for (job, (node, list)) in c.moves.iter().zip(&rust.moved) {
         if rng.one_in(often) {
             let (call, outcome) = stray(rng, &lent, c.jobs.len());
@@ -159,7 +157,7 @@ fn whole(bench: &mut Bench, kind: Kind, c: Relay) {
             bench.differs(kind, "the plain reading of a step is not the Rust's list");
         }
     }
-    let (call, outcome) = closing(rng, &lent, (n * k) as usize);
+    let (call, outcome) = closing(rng, &lent, rust.lists.len());
     let left = bench.call(kind, &call, &outcome);
     let (nodes, bits) = split(&rust.lists);
     let reports = &left.slices[4][..rust.reports.len()];

@@ -1,10 +1,10 @@
 //! Openings of relays through both sides: those of whole relays, and damaged ones judged by 01's table.
 
-use super::lend::{Call, Library, Outcome, OPEN};
-use super::relay::{relay_of, Kind, Lent};
+use super::lend::{Call, Outcome, OPEN};
+use super::parts::{Bench, Judged, Kind};
+use super::relay::{relay_of, Lent};
 use super::state::{lists_formed, split};
 use super::steps::{relay_floats, relay_words, Steps};
-use super::tally::{uncounted, Tally};
 use super::{damage, fill, table};
 use crate::cases::*;
 use crate::make;
@@ -47,6 +47,29 @@ impl Opening {
         }
     }
 
+    fn opened(&self) -> Steps {
+        let jobs = self.jobs.chunks(2).map(|j| (j[0], j[1])).collect();
+        let lanes = Lanes {
+            dimension: self.dimension as usize,
+            nodes: self.n as usize,
+            bits: self.lanes.clone(),
+        };
+        Steps::opened(&Relay {
+            lanes,
+            k: self.k as usize,
+            lists: self
+                .nodes
+                .iter()
+                .copied()
+                .zip(self.bits.iter().copied())
+                .collect(),
+            jobs,
+            moves: Vec::new(),
+        })
+    }
+}
+
+impl Judged for Opening {
     /// In the order of `spoonmeadow_open`.
     fn call(&self) -> Call {
         let lent = self.clone();
@@ -88,31 +111,8 @@ impl Opening {
             .or_else(|| table::formed(lists_formed(n, k, &self.nodes, &self.bits)))
     }
 
-    fn opened(&self) -> Steps {
-        let jobs = self.jobs.chunks(2).map(|j| (j[0], j[1])).collect();
-        let lanes = Lanes {
-            dimension: self.dimension as usize,
-            nodes: self.n as usize,
-            bits: self.lanes.clone(),
-        };
-        Steps::opened(&Relay {
-            lanes,
-            k: self.k as usize,
-            lists: self.nodes.iter().copied().zip(self.bits.iter().copied()).collect(),
-            jobs,
-            moves: Vec::new(),
-        })
-    }
-
-    fn expected(&self) -> Outcome {
-        let mut slices = self.call().slices;
-        if let Some((number, first, second)) = self.refusal() {
-            let said = [number, first, second, 0, 0];
-            return Outcome { said, slices };
-        }
-        let (words, bits) = self.opened().written();
-        slices[4] = words;
-        slices[5] = bits;
+    fn done(&self, mut slices: Vec<Vec<u32>>) -> Outcome {
+        (slices[4], slices[5]) = self.opened().written();
         slices[6].fill(0);
         slices[7].fill(0);
         let said = [0; 5];
@@ -144,38 +144,30 @@ fn harm(rng: &mut Prng, c: &mut Opening) {
     }
 }
 
-fn damaged(rng: &mut Prng) -> Opening {
+fn small(rng: &mut Prng) -> Opening {
     let case = relay_of(some::any_relay(rng));
-    let mut opening = Opening::of(rng, &case);
+    Opening::of(rng, &case)
+}
+
+fn damaged(rng: &mut Prng) -> Opening {
+    let mut opening = small(rng);
     if rng.one_in(10) {
-        opening.jobs = make::jobs(rng, case.lanes.nodes, 65).iter().flat_map(|j| [j.0, j.1]).collect();
+        let jobs = make::jobs(rng, opening.n as usize, 65);
+        opening.jobs = jobs.iter().flat_map(|j| [j.0, j.1]).collect();
     }
-    let times = rng.pick(&[1, 1, 1, 2, 3]);
-    (0..times).for_each(|_| harm(rng, &mut opening));
-    opening
+    damage::some(rng, opening, harm)
 }
 
 /// The opening of a relay through the library: the state that it left.
-pub fn open(library: &mut Library, tally: &mut Tally, kind: Kind, c: &Relay) -> Lent {
+pub fn open(bench: &mut Bench, kind: Kind, c: &Relay) -> Lent {
     let opening = Opening::of(&mut Prng::new(kind.1), c);
-    let mut left = tally.call(library, kind, &opening.call(), &opening.expected());
-    let bits = left.slices.swap_remove(5);
-    Lent {
-        n: opening.n,
-        k: opening.k,
-        words: left.slices.swap_remove(4),
-        bits,
-    }
+    let mut left = bench.judge(kind, &opening).slices;
+    let bits = left.swap_remove(5);
+    let words = left.swap_remove(4);
+    let (n, k) = (opening.n, opening.k);
+    Lent { n, k, words, bits }
 }
 
-/// Damaged openings; one `part`th of them.
-pub fn all(library: &mut Library, tally: &mut Tally, seed: u64, part: u64) {
-    let mut at = seed;
-    for _ in 0..6_000 / part {
-        at += 1;
-        let opening = uncounted(|| damaged(&mut Prng::new(at)));
-        let kind = ("openings, damaged", at);
-        tally.case(kind.0);
-        tally.call(library, kind, &opening.call(), &opening.expected());
-    }
+pub fn all(bench: &mut Bench) {
+    bench.each(&[("openings, damaged", 6_000, damaged)], Bench::lend);
 }
