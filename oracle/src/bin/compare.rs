@@ -5,16 +5,40 @@ use oracle::compare::parts::Bench;
 use oracle::compare::tally::Tally;
 use oracle::compare::{build, descent, iterations, opening, relay, search};
 
-type All = fn(&mut Bench);
+/// Cases by name, the beginnings of the branches inside the Rust that they can meet, and the entries that they lend a state or lists to.
+struct Module {
+    name: &'static str,
+    all: fn(&mut Bench),
+    branches: &'static [&'static str],
+    lends: &'static [&'static str],
+}
 
-/// The case modules by name, and the beginnings of the branches that each can meet (begin meets none).
-static MODULES: [(&str, All, &[&str]); 6] = [
-    ("build", build::all, &["step", "cosine"]),
-    ("search", search::all, &["search"]),
-    ("begin", descent::all, &[]),
-    ("iterate", iterations::all, &["descent", "offer"]),
-    ("open", opening::all, &[]),
-    ("relay", relay::all, &["offer", "relay"]),
+const fn module(
+    name: &'static str,
+    all: fn(&mut Bench),
+    branches: &'static [&'static str],
+    lends: &'static [&'static str],
+) -> Module {
+    Module {
+        name,
+        all,
+        branches,
+        lends,
+    }
+}
+
+static MODULES: [Module; 6] = [
+    module("build", build::all, &["step", "cosine"], &[]),
+    module("search", search::all, &["search"], &[]),
+    module("begin", descent::all, &[], &[]),
+    module(
+        "iterate",
+        iterations::all,
+        &["descent", "offer"],
+        &["iterate"],
+    ),
+    module("open", opening::all, &[], &["open"]),
+    module("relay", relay::all, &["offer", "relay"], &["move", "close"]),
 ];
 
 /// What is run: the modules named, or all; and one `part`th of their cases.
@@ -29,8 +53,8 @@ impl Run<'_> {
     fn go(&self, spoils: bool, part: u64) -> Tally {
         let mut library = Library::start(self.program, spoils);
         let mut tally = Tally::new(if spoils { 0 } else { 20 });
-        for (_, all, _) in self.modules() {
-            all(&mut Bench {
+        for module in self.modules() {
+            (module.all)(&mut Bench {
                 library: &mut library,
                 tally: &mut tally,
                 seed: self.seed,
@@ -41,11 +65,9 @@ impl Run<'_> {
         tally
     }
 
-    fn modules(
-        &self,
-    ) -> impl Iterator<Item = &'static (&'static str, All, &'static [&'static str])> + '_ {
+    fn modules(&self) -> impl Iterator<Item = &'static Module> + '_ {
         let named = |name: &str| self.named.is_empty() || self.named.iter().any(|n| n == name);
-        MODULES.iter().filter(move |m| named(m.0))
+        MODULES.iter().filter(move |m| named(m.name))
     }
 }
 
@@ -61,7 +83,7 @@ fn main() {
         seed: number(1, 20_261_115),
         part: number(2, 1),
     };
-    let known = |name: &String| MODULES.iter().any(|m| m.0 == name);
+    let known = |name: &String| MODULES.iter().any(|m| m.name == name);
     assert!(
         run.named.iter().all(known),
         "build, search, begin, iterate, open or relay"
@@ -74,8 +96,9 @@ fn main() {
     );
     oracle::local::branches::set_counts(Default::default());
     let tally = run.go(false, run.part);
-    let beginnings: Vec<&str> = run.modules().flat_map(|m| m.2).copied().collect();
-    tally.print(&beginnings);
+    let branches: Vec<&str> = run.modules().flat_map(|m| m.branches).copied().collect();
+    let lends: Vec<&str> = run.modules().flat_map(|m| m.lends).copied().collect();
+    tally.print(&branches, &lends);
     if noticed < calls || tally.differing() > 0 {
         std::process::exit(1);
     }

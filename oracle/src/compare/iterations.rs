@@ -2,9 +2,9 @@
 
 use super::descent::{descent_of, harm, Lent};
 use super::lend::Outcome;
-use super::parts::{Bench, Kind};
+use super::parts::{Bench, Judged, Kind};
 use super::tally::uncounted;
-use super::{damage, state};
+use super::{damage, ill, state};
 use crate::cases::*;
 use crate::make::Style;
 use crate::prng::Prng;
@@ -70,11 +70,22 @@ fn any(rng: &mut Prng) -> Lent {
     iterate_of(rng, &c)
 }
 
-/// A well-formed state with one place harmed, in itself or not.
-fn harmed_state(rng: &mut Prng) -> Lent {
+/// A state with one place set to anything: well formed or not.
+fn one_place(rng: &mut Prng) -> Lent {
     let mut lent = any(rng);
     damage::state(rng, &mut lent.state_u, &mut lent.state_f, lent.n as u32);
     lent
+}
+
+/// A state that is not well formed, and in which way.
+fn ill_formed(rng: &mut Prng) -> (Lent, &'static str) {
+    let mut lent = any(rng);
+    let way = ill::descent(rng, &mut lent);
+    (lent, way)
+}
+
+fn refused(bench: &mut Bench, kind: Kind, (lent, way): (Lent, &'static str)) {
+    bench.ill(kind, ("iterate", way), &(lent.call(), lent.expected()));
 }
 
 fn damaged(rng: &mut Prng) -> Lent {
@@ -94,9 +105,13 @@ pub fn all(bench: &mut Bench) {
     bench.each(
         &[
             ("iterations from any state", 6_000, any),
-            ("iterations, state harmed", 6_000, harmed_state),
+            ("iterations, one place of the state set", 4_000, one_place),
             ("iterations, damaged", 4_000, damaged),
         ],
         Bench::lend,
+    );
+    bench.each(
+        &[("iterations, state not well formed", 6_000, ill_formed)],
+        refused,
     );
 }

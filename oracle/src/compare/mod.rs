@@ -4,6 +4,8 @@ pub mod build;
 pub mod damage;
 pub mod descent;
 pub mod fill;
+pub mod ill;
+pub mod ill_relay;
 pub mod iterations;
 pub mod lend;
 pub mod opening;

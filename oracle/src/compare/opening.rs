@@ -5,7 +5,7 @@ use super::parts::{Bench, Judged, Kind};
 use super::relay::{relay_of, Lent};
 use super::state::{lists_formed, split};
 use super::steps::{relay_floats, relay_words, Steps};
-use super::{damage, fill, table};
+use super::{damage, fill, ill, table};
 use crate::cases::*;
 use crate::make;
 use crate::prng::Prng;
@@ -120,7 +120,7 @@ impl Judged for Opening {
     }
 }
 
-const HARMS: usize = 15;
+const HARMS: usize = 17;
 
 /// Harms one place of what an opening is lent.
 fn harm(rng: &mut Prng, c: &mut Opening) {
@@ -140,8 +140,31 @@ fn harm(rng: &mut Prng, c: &mut Opening) {
         11 => damage::shorten(rng, &mut c.floats, scratch),
         12 => damage::lane(rng, &mut c.lanes),
         13 => damage::state(rng, &mut c.jobs, &mut [], c.n as u32),
+        14 => damage::edge_nodes(rng, &mut c.lanes, c.dimension),
+        15 => harm_job(rng, c),
         _ => damage::state(rng, &mut c.nodes, &mut c.bits, c.n as u32),
     }
+}
+
+/// The lanes of a job's two nodes at the end of the fit distances, or one of them unfit.
+fn harm_job(rng: &mut Prng, c: &mut Opening) {
+    let dimension = c.dimension.min(64) as usize;
+    let nodes = c.lanes.len() / dimension.max(1);
+    let of = |v: &u32| (*v as usize) < nodes;
+    let (Some([u, v]), true) = (c.jobs.last_chunk::<2>(), dimension > 0) else {
+        return;
+    };
+    if u == v || !of(u) || !of(v) {
+        return;
+    }
+    let (u, v) = (*u as usize * dimension, *v as usize * dimension);
+    let (mut one, mut other) = (vec![0; dimension], vec![0; dimension]);
+    damage::edge(&mut one, &mut other);
+    if rng.one_in(2) {
+        damage::lane(rng, &mut other);
+    }
+    c.lanes[u..u + dimension].copy_from_slice(&one);
+    c.lanes[v..v + dimension].copy_from_slice(&other);
 }
 
 fn small(rng: &mut Prng) -> Opening {
@@ -158,6 +181,17 @@ fn damaged(rng: &mut Prng) -> Opening {
     damage::some(rng, opening, harm)
 }
 
+/// Lists that are not well formed, and in which way.
+fn ill_formed(rng: &mut Prng) -> (Opening, &'static str) {
+    let mut o = small(rng);
+    let way = ill::lists(rng, (o.n, o.k), &mut o.nodes, &mut o.bits);
+    (o, way)
+}
+
+fn refused(bench: &mut Bench, kind: Kind, (lent, way): (Opening, &'static str)) {
+    bench.ill(kind, ("open", way), &(lent.call(), lent.expected()));
+}
+
 /// The opening of a relay through the library: the state that it left.
 pub fn open(bench: &mut Bench, kind: Kind, c: &Relay) -> Lent {
     let opening = Opening::of(&mut Prng::new(kind.1), c);
@@ -170,4 +204,8 @@ pub fn open(bench: &mut Bench, kind: Kind, c: &Relay) -> Lent {
 
 pub fn all(bench: &mut Bench) {
     bench.each(&[("openings, damaged", 6_000, damaged)], Bench::lend);
+    bench.each(
+        &[("openings, lists not well formed", 2_000, ill_formed)],
+        refused,
+    );
 }

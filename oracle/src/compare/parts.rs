@@ -51,12 +51,12 @@ impl Bench<'_> {
         }
     }
 
-    /// One call of a case, held to what is expected; what it left.
+    /// One call of a case, held to what is expected; what it left, and where that differs what it should have left.
     pub fn call(&mut self, kind: Kind, call: &Call, expected: &Outcome) -> Outcome {
         self.tally.call(self.library, kind, call, expected)
     }
 
-    /// One call, held to its own judgement; what it left.
+    /// One call, held to its own judgement.
     pub fn judge(&mut self, kind: Kind, lent: &impl Judged) -> Outcome {
         self.call(kind, &lent.call(), &lent.expected())
     }
@@ -64,6 +64,20 @@ impl Bench<'_> {
     /// A case that is one call.
     pub fn lend<T: Judged>(&mut self, kind: Kind, lent: T) {
         self.judge(kind, &lent);
+    }
+
+    /// One call of an entry on what is not well formed in a named way: row 12 by the reading too.
+    pub fn ill(
+        &mut self,
+        kind: Kind,
+        (entry, way): (&'static str, &'static str),
+        (call, expected): &(Call, Outcome),
+    ) {
+        self.tally.way(entry, way);
+        if expected.said[0] != 12 {
+            self.differs(kind, &format!("{} passes the reading of row 12", way));
+        }
+        self.call(kind, call, expected);
     }
 
     pub fn differs(&mut self, kind: Kind, what: &str) {

@@ -4,7 +4,7 @@ use super::lend::{Call, Outcome, CLOSE, MOVE};
 use super::parts::{Bench, Kind};
 use super::state::split;
 use super::steps::{relay_floats, relay_words, Steps};
-use super::{damage, fill, opening, table};
+use super::{damage, fill, ill_relay, opening, table};
 use crate::cases::*;
 use crate::make::{self, Order};
 use crate::prng::Prng;
@@ -105,7 +105,7 @@ fn stray(rng: &mut Prng, lent: &Lent, jobs: usize) -> (Call, Outcome) {
     let mut lent = lent.clone();
     let length = (lent.n * lent.k) as usize;
     let job = rng.below(jobs + 1) as u64;
-    match rng.below(12) {
+    match rng.below(9) {
         0 => lent.n = rng.pick(&[0, 1, 1025, u64::MAX]),
         1 => lent.k = damage::number(rng, 64),
         2 => damage::length(rng, &mut lent.words),
@@ -123,7 +123,7 @@ fn stray(rng: &mut Prng, lent: &Lent, jobs: usize) -> (Call, Outcome) {
             return lent.closing(nodes, bits, reports);
         }
         6 => return lent.moving(rng.pick(&[job, jobs as u64, 64, 65, u64::MAX])),
-        7..=9 => {
+        7 => {
             let from = (lent.n * (lent.k + 64)) as usize;
             let to = from + lent.n as usize + 1 + 15 * jobs;
             damage::state(rng, &mut lent.words[from..to], &mut [], lent.n as u32);
@@ -134,6 +134,18 @@ fn stray(rng: &mut Prng, lent: &Lent, jobs: usize) -> (Call, Outcome) {
         return closing(rng, &lent, length);
     }
     lent.moving(job)
+}
+
+/// A move or a close on a copy of the relay's state that is not well formed.
+fn ill_formed(bench: &mut Bench, rng: &mut Prng, kind: Kind, mut lent: Lent, jobs: usize) {
+    let length = (lent.n * lent.k) as usize;
+    let way = ill_relay::relay(rng, &mut lent);
+    if rng.one_in(2) {
+        bench.ill(kind, ("close", way), &closing(rng, &lent, length));
+    } else {
+        let job = rng.below(jobs + 1) as u64;
+        bench.ill(kind, ("move", way), &lent.moving(job));
+    }
 }
 
 /// Opened, moved in the case's order, and closed; lists and reports are hora's. Stray calls come between.
@@ -147,6 +159,9 @@ fn whole(bench: &mut Bench, kind: Kind, c: Relay) {
         if rng.one_in(often) {
             let (call, outcome) = stray(rng, &lent, c.jobs.len());
             bench.call(kind, &call, &outcome);
+        }
+        if rng.one_in(often) {
+            ill_formed(bench, rng, kind, lent.clone(), c.jobs.len());
         }
         let (call, outcome) = lent.moving(*job as u64);
         let left = bench.call(kind, &call, &outcome);

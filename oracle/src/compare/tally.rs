@@ -1,5 +1,6 @@
 //! How many cases of each kind ran and differed, which refusals were given, and which seldom branches were met.
 
+use super::ill_relay;
 use super::lend::{Call, Library, Outcome, Reply};
 use super::parts::Kind;
 use crate::local::branches;
@@ -11,12 +12,17 @@ struct Counts {
     calls: usize,
     /// Calls whose reply was not what was expected.
     noticed: usize,
+    /// Cases with a difference of any sort.
     differed: usize,
     said: [usize; 14],
 }
 
 pub struct Tally {
     kinds: Vec<(&'static str, Counts)>,
+    /// For each way in which lists or a state were not well formed, the calls that were lent such ones.
+    ways: BTreeMap<&'static str, BTreeMap<&'static str, usize>>,
+    /// Whether the case that is run has differed.
+    differs: bool,
     /// How many differences may still be told in full.
     to_show: usize,
 }
@@ -31,8 +37,12 @@ pub fn uncounted<T>(make: impl FnOnce() -> T) -> T {
 
 impl Tally {
     pub fn new(to_show: usize) -> Self {
-        let kinds = Vec::new();
-        Tally { kinds, to_show }
+        Tally {
+            kinds: Vec::new(),
+            ways: BTreeMap::new(),
+            differs: false,
+            to_show,
+        }
     }
 
     fn counts(&mut self, kind: &'static str) -> &mut Counts {
@@ -45,18 +55,26 @@ impl Tally {
 
     pub fn case(&mut self, kind: &'static str) {
         self.counts(kind).cases += 1;
+        self.differs = false;
+    }
+
+    /// A call is lent what is not well formed in this way.
+    pub fn way(&mut self, call: &'static str, way: &'static str) {
+        let calls = self.ways.entry(way).or_default();
+        *calls.entry(call).or_default() += 1;
     }
 
     /// A difference of any sort; the first few are told in full.
     pub fn differs(&mut self, (kind, seed): Kind, what: &str) {
-        self.counts(kind).differed += 1;
+        self.counts(kind).differed += !self.differs as usize;
+        self.differs = true;
         if self.to_show > 0 {
             println!("DIFFERS: {}, case seed {}: {}", kind, seed, what);
             self.to_show -= 1;
         }
     }
 
-    /// One call through the library, held to what is expected of it; what it left.
+    /// One call through the library, held to what is expected of it; what it left. A difference is not carried into later calls.
     pub fn call(
         &mut self,
         library: &mut Library,
@@ -72,6 +90,7 @@ impl Tally {
             let what = format!("numbers {:?}: {}", call.numbers, what);
             self.counts(kind).noticed += 1;
             self.differs((kind, seed), &what);
+            return expected.clone();
         }
         reply.outcome
     }
@@ -88,7 +107,8 @@ impl Tally {
         self.kinds.iter().map(|(_, c)| c.differed).sum()
     }
 
-    pub fn print(&self, beginnings: &[&str]) {
+    /// All of it; of the seldom branches those whose names begin so, and of the ways those that these entries can be lent.
+    pub fn print(&self, beginnings: &[&str], entries: &[&str]) {
         let mut cases = 0;
         for (kind, c) in &self.kinds {
             cases += c.cases;
@@ -98,20 +118,35 @@ impl Tally {
                 .collect();
             let said = said.join(", ");
             println!(
-                "{}: {} cases, {} calls, {} differed; refusals by number (0 is none) {}",
+                "{}: {} cases, {} calls, {} cases differed; refusals by number (0 is none) {}",
                 kind, c.cases, c.calls, c.differed, said
             );
         }
-        println!("{} cases in all, {} differences", cases, self.differing());
+        let (calls, differing) = (self.calls(), self.differing());
+        println!(
+            "{} cases in all, {} calls, {} cases differed",
+            cases, calls, differing
+        );
         println!("seldom branches met in the cases compared, counted inside the Rust:");
         let counts: BTreeMap<&str, usize> = branches::counts();
         for name in branches::names(beginnings) {
-            match counts.get(name) {
-                Some(count) => println!("  {}: {}", name, count),
-                None => println!("  {}: NOT MET", name),
+            println!("  {}: {}", name, met(counts.get(name)));
+        }
+        println!("calls on what is not well formed (12), by the way in which it is not:");
+        for (way, lent_to) in ill_relay::ways() {
+            let lent_to = lent_to.iter().filter(|e| entries.contains(*e));
+            let calls = self.ways.get(way);
+            let each = |e: &&str| format!("{} {}", e, met(calls.and_then(|c| c.get(e))));
+            let each: Vec<String> = lent_to.map(each).collect();
+            if !each.is_empty() {
+                println!("  {}: {}", way, each.join(", "));
             }
         }
     }
+}
+
+fn met(count: Option<&usize>) -> String {
+    count.map_or("NOT MET".to_string(), |c| c.to_string())
 }
 
 /// The first place where a reply is not what was expected.
