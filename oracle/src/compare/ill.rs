@@ -66,14 +66,21 @@ impl List {
     }
 }
 
-const LIST_WAYS: [Way<List>; 10] = [
+const LIST_WAYS: [Way<List>; 11] = [
     ("distances that fall", distances_fall),
     ("nodes that fall at one distance", nodes_fall),
     ("an unfilled entry before a filled one", unfilled_first),
-    ("a node above n", |rng, l| {
+    ("a node above n at a fit distance", |rng, l| {
         let node = rng.pick(&[l.n + 1, u32::MAX]);
-        l.set(l.last(), node, EMPTY)
+        l.set(l.end(), node, EMPTY - 1)
     }),
+    (
+        "a node above n at the distance of an unfilled entry",
+        |rng, l| {
+            let node = rng.pick(&[l.n + 1, u32::MAX]);
+            l.set(l.last(), node, EMPTY)
+        },
+    ),
     ("node n at a fit distance", |_, l| {
         l.set(l.end(), l.n, EMPTY - 1)
     }),

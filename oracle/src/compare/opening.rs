@@ -181,6 +181,20 @@ fn damaged(rng: &mut Prng) -> Opening {
     damage::some(rng, opening, harm)
 }
 
+/// Lanes of one node at which distances are unfit, and no job of unequal nodes that names it: its distances are not worked out.
+fn unmeasured(rng: &mut Prng) -> Opening {
+    let mut opening = small(rng);
+    let (node, other) = (0, 1);
+    let lanes = opening.dimension as usize;
+    damage::lane(rng, &mut opening.lanes[..lanes]);
+    for job in opening.jobs.chunks_mut(2) {
+        if job.contains(&node) {
+            job.fill(rng.pick(&[node, other]));
+        }
+    }
+    opening
+}
+
 /// Lists that are not well formed, and in which way.
 fn ill_formed(rng: &mut Prng) -> (Opening, &'static str) {
     let mut o = small(rng);
@@ -203,7 +217,13 @@ pub fn open(bench: &mut Bench, kind: Kind, c: &Relay) -> Lent {
 }
 
 pub fn all(bench: &mut Bench) {
-    bench.each(&[("openings, damaged", 6_000, damaged)], Bench::lend);
+    bench.each(
+        &[
+            ("openings, damaged", 6_000, damaged),
+            ("openings, lanes that no job measures", 1_000, unmeasured),
+        ],
+        Bench::lend,
+    );
     bench.each(
         &[("openings, lists not well formed", 2_000, ill_formed)],
         refused,
