@@ -6,7 +6,7 @@ use super::state::split;
 use super::steps::{relay_floats, relay_words, Steps};
 use super::{damage, fill, ill_relay, opening, table};
 use crate::cases::*;
-use crate::make::{self, Order};
+use crate::make;
 use crate::prng::Prng;
 use crate::run;
 use crate::some;
@@ -192,13 +192,23 @@ fn few_jobs(rng: &mut Prng) -> Relay {
     relay_of(some::any_relay(rng))
 }
 
-/// 16 to 64 jobs on few nodes, so that they meet.
+/// 16 to 64 jobs on few nodes, so that they meet; the moves in an order of the seed's.
 fn many_jobs(rng: &mut Prng) -> Relay {
     let (n, dimension, style) = (rng.from_to(2, 12), rng.pick(&[1, 2, 3]), make::style(rng));
     let (k, count) = (rng.pick(&[1, 2, 3, 8]), rng.pick(&[16, 16, 17, 20, 24, 64]));
-    let mut relay = relay_of(some::relay_at(rng, (n, dimension), style, k, count));
-    relay.moves = make::moves(rng, count, Order::Shuffled);
-    relay
+    relay_of(some::relay_at(rng, (n, dimension), style, k, count))
+}
+
+/// Any sizes within the ranges.
+fn larger(rng: &mut Prng) -> Relay {
+    let (n, dimension) = (rng.pick(&[2, 33, 64, 200]), rng.pick(&[1, 2, 64]));
+    let (k, jobs, style) = (rng.from_to(1, 64), rng.from_to(1, 12), make::style(rng));
+    relay_of(some::relay_at(rng, (n, dimension), style, k, jobs))
+}
+
+fn largest(rng: &mut Prng) -> Relay {
+    let (k, style) = (rng.pick(&[1, 8, 64]), make::style(rng));
+    relay_of(some::relay_at(rng, (1024, 1), style, k, 4))
 }
 
 pub fn all(bench: &mut Bench) {
@@ -206,6 +216,8 @@ pub fn all(bench: &mut Bench) {
         &[
             ("relays, 1 to 7 jobs", 3_000, few_jobs),
             ("relays, 16 to 64 jobs", 2_000, many_jobs),
+            ("relays, n to 200, k to 64", 200, larger),
+            ("relays, n 1,024", 40, largest),
         ],
         whole,
     );
