@@ -13,6 +13,9 @@ const REPORT: [usize; 2] = [3, 5];
 const MEASURE: [usize; 2] = [4, 6];
 const JOB: usize = 15;
 
+/// Asks something of a half of a job: the job's words, the half, and how many of the half's steps are done.
+type Asks = fn(&[u32], usize, u32) -> bool;
+
 impl Lent {
     fn room(&self) -> usize {
         self.k as usize + 64
@@ -37,12 +40,8 @@ impl Lent {
         &mut self.bits[at]
     }
 
-    /// Some job and half of which this holds, given the job's words and how many of the half's steps are done.
-    fn half(
-        &mut self,
-        rng: &mut Prng,
-        holds: fn(&[u32], usize, u32) -> bool,
-    ) -> Option<(usize, usize)> {
+    /// Some job and half of which this holds.
+    fn half(&mut self, rng: &mut Prng, holds: Asks) -> Option<(usize, usize)> {
         let all = (0..self.jobs()).flat_map(|job| [(job, 0), (job, 1)]);
         let fitting: Vec<(usize, usize)> = all
             .filter(|(job, half)| {
@@ -55,20 +54,14 @@ impl Lent {
     }
 
     /// Sets a word of such a half; false where there is none.
-    fn set_half(
-        &mut self,
-        rng: &mut Prng,
-        holds: fn(&[u32], usize, u32) -> bool,
-        place: [usize; 2],
-        to: u32,
-    ) -> bool {
+    fn set_half(&mut self, rng: &mut Prng, holds: Asks, place: [usize; 2], to: u32) -> bool {
         let found = self.half(rng, holds);
         found
             .map(|(job, half)| self.job(job)[place[half]] = to)
             .is_some()
     }
 
-    /// A node, the place of its list and that of the list's length.
+    /// The place of some node's list, and that of the list's length.
     fn some_list(&self, rng: &mut Prng) -> (usize, usize) {
         let w = rng.below(self.n as usize);
         (w * self.room(), self.n as usize * self.room() + w)
@@ -225,7 +218,7 @@ fn u_is_v_taken(rng: &mut Prng, r: &mut Lent) -> bool {
     found.map(set).is_some()
 }
 
-fn one_step_on(rng: &mut Prng, r: &mut Lent, holds: fn(&[u32], usize, u32) -> bool) -> bool {
+fn one_step_on(rng: &mut Prng, r: &mut Lent, holds: Asks) -> bool {
     let found = r.half(rng, holds);
     found.map(|(job, _)| r.job(job)[STEPS] += 1).is_some()
 }

@@ -109,24 +109,7 @@ impl Tally {
 
     /// All of it; of the seldom branches those whose names begin so, and of the ways those that these entries can be lent.
     pub fn print(&self, beginnings: &[&str], entries: &[&str]) {
-        let mut cases = 0;
-        for (kind, c) in &self.kinds {
-            cases += c.cases;
-            let said: Vec<String> = (0..14)
-                .filter(|i| c.said[*i] > 0)
-                .map(|i| format!("{}: {}", i, c.said[i]))
-                .collect();
-            let said = said.join(", ");
-            println!(
-                "{}: {} cases, {} calls, {} cases differed; refusals by number (0 is none) {}",
-                kind, c.cases, c.calls, c.differed, said
-            );
-        }
-        let (calls, differing) = (self.calls(), self.differing());
-        println!(
-            "{} cases in all, {} calls, {} cases differed",
-            cases, calls, differing
-        );
+        self.print_kinds();
         println!("seldom branches met in the cases compared, counted inside the Rust:");
         let counts: BTreeMap<&str, usize> = branches::counts();
         for name in branches::names(beginnings) {
@@ -134,13 +117,37 @@ impl Tally {
         }
         println!("calls on what is not well formed (12), by the way in which it is not:");
         for (way, lent_to) in ill_relay::ways() {
-            let lent_to = lent_to.iter().filter(|e| entries.contains(*e));
-            let calls = self.ways.get(way);
-            let each = |e: &&str| format!("{} {}", e, met(calls.and_then(|c| c.get(e))));
-            let each: Vec<String> = lent_to.map(each).collect();
-            if !each.is_empty() {
-                println!("  {}: {}", way, each.join(", "));
-            }
+            self.print_way(way, lent_to.iter().filter(|e| entries.contains(*e)));
+        }
+    }
+
+    fn print_kinds(&self) {
+        for (kind, c) in &self.kinds {
+            let given = (0..14).filter(|i| c.said[*i] > 0);
+            let said: Vec<String> = given.map(|i| format!("{}: {}", i, c.said[i])).collect();
+            println!(
+                "{}: {} cases, {} calls, {} cases differed; refusals by number (0 is none) {}",
+                kind,
+                c.cases,
+                c.calls,
+                c.differed,
+                said.join(", ")
+            );
+        }
+        let cases: usize = self.kinds.iter().map(|(_, c)| c.cases).sum();
+        let (calls, differing) = (self.calls(), self.differing());
+        println!(
+            "{} cases in all, {} calls, {} cases differed",
+            cases, calls, differing
+        );
+    }
+
+    fn print_way<'a>(&self, way: &str, entries: impl Iterator<Item = &'a &'a str>) {
+        let calls = self.ways.get(way);
+        let each = |e: &&str| format!("{} {}", e, met(calls.and_then(|c| c.get(e))));
+        let each: Vec<String> = entries.map(each).collect();
+        if !each.is_empty() {
+            println!("  {}: {}", way, each.join(", "));
         }
     }
 }
