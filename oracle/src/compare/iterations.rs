@@ -6,7 +6,7 @@ use super::parts::{Bench, Judged, Kind};
 use super::tally::uncounted;
 use super::{damage, ill, state};
 use crate::cases::*;
-use crate::make::Style;
+use crate::make::{self, Style};
 use crate::prng::Prng;
 use crate::run;
 use crate::some;
@@ -44,6 +44,20 @@ fn iteration_of(case: Case) -> Iterate {
         Case::Iterate(c) => c,
         _ => panic!("an iteration"),
     }
+}
+
+/// Any k and s within their ranges, often their ends.
+fn larger(rng: &mut Prng) -> Descent {
+    let (n, dimension, style) = (
+        rng.pick(&[2, 3, 20, 33, 64]),
+        rng.pick(&[1, 2, 64]),
+        make::style(rng),
+    );
+    let any = rng.from_to(1, 64);
+    let k = rng.pick(&[any, any, 64]);
+    let any = rng.from_to(1, k);
+    let s = rng.pick(&[any, any, 1, k]);
+    descent_of(some::descent_at(rng, (n, dimension), style, (k, s), 3))
 }
 
 fn large(rng: &mut Prng) -> Descent {
@@ -97,6 +111,7 @@ pub fn all(bench: &mut Bench) {
     bench.each(
         &[
             ("descents, n to 16", 6_000, small),
+            ("descents, n to 64, k to 64", 200, larger),
             ("descents, n 256 to 400", 200, large),
             ("descents, n 1,024", 6, largest),
         ],

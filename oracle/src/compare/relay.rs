@@ -189,7 +189,10 @@ pub fn relay_of(case: Case) -> Relay {
 }
 
 fn few_jobs(rng: &mut Prng) -> Relay {
-    relay_of(some::any_relay(rng))
+    let mut relay = relay_of(some::any_relay(rng));
+    let order = rng.pick(&some::ORDERS);
+    relay.moves = make::moves(rng, relay.jobs.len(), order);
+    relay
 }
 
 /// 16 to 64 jobs on few nodes, so that they meet; the moves in an order of the seed's.
