@@ -76,7 +76,7 @@ static void say_found(spoonmeadow_found f) {
 }
 
 static void say_iterated(spoonmeadow_iterated i) {
-    say(i.refusal, i.first, i.second, i.cost, i.total_of_new);
+    say(i.refusal, i.first, i.second, i.cost, i.total);
 }
 
 /* One bit of what was said, or of one slice with its guards. */
