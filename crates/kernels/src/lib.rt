@@ -1,13 +1,14 @@
-// Eight nodes at once: their lanes side by side in a local block, each still summed in lane order with one rounding per operation.
+// Eight nodes at once, their lanes side by side in a local block, or four as they lie: each still summed in lane order with one rounding per operation.
 ghost use mathlib.Core.Path.{_≡_};
 ghost use mathlib.Core.Bool.{true, false};
 ghost use mathlib.Core.List.{[], _∷_};
 ghost use Prim.Native.Nat.{ℕ, _+_, _*_, _≤_, _<_};
 ghost use lib.ListN.{length, getD};
 ghost use lib.Ieee.{nan};
-ghost use Rattle.rules.specs.Distance.{fit, answer, carried, nodesApart, unfit};
+ghost use Rattle.rules.specs.Distance.{lane, fit, answer, carried, nodesApart, unfit, between};
 ghost use Rattle.rules.specs.Refusals.{decide, decisionOf, row10};
 ghost use Rattle.kernels.specs.Eight.{held, Held, Laned, PutRow, Holds, Totals, AllFit, Clear};
+ghost use Rattle.kernels.specs.Four.{Fours, Apart4};
 use rules::Answer;
 use rules::NodeId;
 
@@ -31,8 +32,8 @@ pub fn carried(total: f32) -> f32
     0.0
 }
 
-// Node `v`, or the last of the n where there is none.
-fn held(n: usize, v: usize) -> usize
+/// Node `v`, or the last of the n where there is none.
+pub fn held(n: usize, v: usize) -> usize
     requires { ⌜ 1 ≤ n ⌝ }
     ensures { λ r. ⌜ Held n v r ⌝ }
 {
@@ -157,4 +158,73 @@ pub fn first_unfit(lanes: &[f32], dimension: usize, n: usize) -> Answer
         base += 8;
     }
     Answer::Done
+}
+
+/// Four numbers, one for each of four nodes.
+pub struct Four {
+    pub a: f32,
+    pub b: f32,
+    pub c: f32,
+    pub d: f32,
+}
+
+// One lane of one node: what `metrics::metric` does in a turn.
+fn lane(total: f32, x: f32, y: f32) -> f32
+    ensures { λ r. ⌜ r ≡ lane total x y ⌝ }
+{
+    let t = x - y;
+    total + t * t
+}
+
+/// The totals of a vector and each of four: four sums side by side take little longer than one, whose additions wait for each other.
+pub fn totals4(x: &[f32], a: &[f32], b: &[f32], c: &[f32], d: &[f32]) -> Four
+    requires { ⌜ (length (now a) ≡ length (now x)) × (length (now b) ≡ length (now x)) × (length (now c) ≡ length (now x)) × (length (now d) ≡ length (now x)) ⌝ }
+    ensures { λ r. ⌜ Fours (now (x .entry)) (now (a .entry)) (now (b .entry)) (now (c .entry)) (now (d .entry)) r ⌝ }
+{
+    let mut ta = 0.0f32;
+    let mut tb = 0.0f32;
+    let mut tc = 0.0f32;
+    let mut td = 0.0f32;
+    let mut l = 0usize;
+    while l < x.len() {
+        ta = lane(ta, x[l], a[l]);
+        tb = lane(tb, x[l], b[l]);
+        tc = lane(tc, x[l], c[l]);
+        td = lane(td, x[l], d[l]);
+        l += 1;
+    }
+    Four {
+        a: ta,
+        b: tb,
+        c: tc,
+        d: td,
+    }
+}
+
+/// The distances of node `p` and each of four, as `metrics::between` gives them.
+pub fn between4(
+    lanes: &[f32],
+    dimension: usize,
+    n: usize,
+    p: NodeId,
+    a: NodeId,
+    b: NodeId,
+    c: NodeId,
+    d: NodeId,
+) -> Four
+    requires { ⌜ (length (now lanes) ≡ n * dimension) × (p .0 < n) × (a .0 < n) × (b .0 < n) × (c .0 < n) × (d .0 < n) ⌝ }
+    ensures { λ r. ⌜ Apart4 (between (now (lanes .entry)) dimension (p .0)) (a .0) (b .0) (c .0) (d .0) r ⌝ }
+{
+    let x = metrics::lanes_of(lanes, dimension, p);
+    let xa = metrics::lanes_of(lanes, dimension, a);
+    let xb = metrics::lanes_of(lanes, dimension, b);
+    let xc = metrics::lanes_of(lanes, dimension, c);
+    let xd = metrics::lanes_of(lanes, dimension, d);
+    let t = totals4(x, xa, xb, xc, xd);
+    Four {
+        a: carried(t.a),
+        b: carried(t.b),
+        c: carried(t.c),
+        d: carried(t.d),
+    }
 }

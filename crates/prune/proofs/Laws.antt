@@ -1,6 +1,6 @@
 -- Laws of step 3 over plain lists: what is chosen, and the turns of its loops. Assumes nothing.
-use mathlib.Core.Path.{_≡_, refl, sym, ap, _∙_}
-use mathlib.Core.Bool.{Bool, true, false, cond, not, _&&_, _||_}
+use mathlib.Core.Path.{_≡_, refl, sym, ap, subst, _∙_}
+use mathlib.Core.Bool.{Bool, true, false, cond, not, true≢false, _&&_, _||_}
 use mathlib.Core.List.{List, [], _∷_, _++_}
 use Prim.Native.Nat.{ℕ, zero, suc, _+_, _≤_, _<_, zero-le, suc-le-suc}
 use native.Mathlib.Nat.{le-of-suc-le-suc, not-suc-le-zero}
@@ -9,8 +9,8 @@ use native.Mathlib.Omega.{arith}
 use lib.Dec.{ltb}
 use lib.ListN.{length, drop, getD, set, length-append, length-set}
 use lib.Seq.{drop-set-lt, take-set-le, getD-set-same}
-use lib.Ieee.{Float, lt}
-use borrow.Author.Tests.{lt-ltb, le-ltb, eq-eqb, ne-eqb}
+use lib.Ieee.{Float, nan, lt}
+use borrow.Author.Tests.{lt-ltb, le-ltb, ltb-true, ltb-false, eq-eqb, ne-eqb}
 use Rattle.rules.specs.declared.Neighbor.{Neighbor}
 use Rattle.rules.specs.Loops.{through, anyOf}
 use Rattle.rules.specs.Lists.{neighbor, nodeOf, entries, sort}
@@ -18,7 +18,9 @@ use Rattle.rules.specs.Build.{cosine, occludes, keep, choose, Between}
 use Rattle.rules.proofs.Loops.{through-end, any-end}
 use Rattle.lists.proofs.Slices.{length-entries, drop-entries, entries-suc, entries-same}
 use Rattle.lists.proofs.Plain.{drop-later, all-append, all-sort}
-use Rattle.prune.specs.Chosen.{AllBelow, Kept, Chosen}
+use Rattle.kernels.specs.Eight.{held, Held}
+use Rattle.kernels.proofs.Laws.{held-below}
+use Rattle.prune.specs.Chosen.{AllBelow, FourStand, Kept, Chosen}
 
 -- ---- one entry against another
 
@@ -36,11 +38,24 @@ module _ (d : Between) (t : Float) (b : Bool) (p r : Neighbor) where
       go true = refl
       go false = refl
 
+  -- the distance of the two is all that is asked of the distances
+  pub occludes-apart : (e : Between) → e (nodeOf p) (nodeOf r) ≡ d (nodeOf p) (nodeOf r) → occludes e t b p r ≡ occludes d t b p r
+  unfolding occludes
+  occludes-apart e h = rw h
+
   pub occludes-plain : b ≡ false → lt t (cosine (p .distance) (r .distance) (d (nodeOf p) (nodeOf r))) ≡ occludes d t b p r
   unfolding occludes
   occludes-plain e = rw e
 
+-- what was asked of an entry by its distance is asked of the entry
+pub stood : (d : Between) (t : Float) (b : Bool) (p : Neighbor) {r : Neighbor} {djk : Float} {s : Bool} (x : Neighbor) → s ≡ occludes (λ (i j : ℕ). djk) t b p r
+    → djk ≡ d (nodeOf p) (nodeOf r) → r ≡ x → s ≡ occludes d t b p x
+stood d t b p {r} {djk} x e f g = e ∙ occludes-apart d t b p r (λ (i j : ℕ). djk) f ∙ ap (occludes d t b p) g
+
 -- ---- nodes below n
+
+pub below-is : (n : ℕ) {e x : Neighbor} → e ≡ x → nodeOf x < n → nodeOf e < n
+below-is n q h = subst (λ (z : Neighbor). nodeOf z < n) (sym q) h
 
 -- the entry at place i of two slices
 pub below-entry : (n len i : ℕ) (ns : List ℕ) (ds : List Float) (a : ℕ) → AllBelow n (entries len ns ds) → i < len → len ≤ length ns → len ≤ length ds → getD ns i a < n
@@ -77,6 +92,55 @@ module _ (p : Neighbor → Bool) (ns : List ℕ) (ds : List Float) (len i : ℕ)
 
   pub any-entry-end : len ≤ i → anyOf p (drop i (entries len ns ds)) ≡ false
   any-entry-end l = let long = length-entries len ns ds h k in any-end p (entries len ns ds) i (omega arith)
+
+-- ---- the same at four places, the last of them again where there are fewer
+
+any-drop : (p : Neighbor → Bool) (xs : List Neighbor) (i : ℕ) → anyOf p (drop i xs) ≡ true → anyOf p xs ≡ true
+unfolding anyOf
+any-drop p xs zero e = e
+any-drop p [] (suc i) e = e
+any-drop p (x ∷ xs) (suc i) e = rw (any-drop p xs i e) (go (p x))
+  where
+    go : (b : Bool) → (b || true) ≡ true
+    go true = refl
+    go false = refl
+
+module _ (p : Neighbor → Bool) (ns : List ℕ) (ds : List Float) (len : ℕ) (h : len ≤ length ns) (k : len ≤ length ds) where
+  abbrev At : ℕ → Neighbor
+  At i = neighbor (getD ns i 0) (getD ds i nan)
+
+  some-entry : (i : ℕ) → i < len → p (At i) ≡ true → anyOf p (entries len ns ds) ≡ true
+  some-entry i l e = any-drop p (entries len ns ds) i (any-entry-here p ns ds len i 0 nan h k l e)
+
+  past : (i j : ℕ) → j ≡ held len i → p (At j) ≡ false → anyOf p (drop (i + 1) (entries len ns ds)) ≡ anyOf p (drop i (entries len ns ds))
+  past i j q e = go (ltb i len) refl
+    where
+      go : (b : Bool) → ltb i len ≡ b → anyOf p (drop (i + 1) (entries len ns ds)) ≡ anyOf p (drop i (entries len ns ds))
+      go true f =
+          let l = ltb-true i len f in
+          any-entry-turn p ns ds len i 0 nan h k l (ap (λ (m : ℕ). p (At m)) (sym (q ∙ held-below len i l)) ∙ e)
+      go false f =
+          let l = ltb-false i len f in
+          any-entry-end p ns ds len (i + 1) 0 nan h k (omega arith) ∙ sym (any-entry-end p ns ds len i 0 nan h k l)
+
+  pub four-yes : (i j : ℕ) (r : Bool) → j < len → p (At j) ≡ true → r ≡ true → FourStand p ns ds len i r
+  four-yes i j r l e f = record { yes = λ g. some-entry j l e; no = λ g. absurd (true≢false (sym f ∙ g)) }
+
+  pub four-last : (i a b c : ℕ) (r : Bool) → i < len → Held len (i + 1) a → Held len (i + 2) b → Held len (i + 3) c
+      → p (At i) ≡ false → p (At a) ≡ false → p (At b) ≡ false → r ≡ p (At c) → FourStand p ns ds len i r
+  four-last i a b c r l A B C e f g q =
+      record {
+        yes = λ y. some-entry c (C .below) (sym q ∙ y);
+        no = λ y.
+            let es = entries len ns ds in
+            let two : i + 2 ≡ i + 1 + 1 = omega arith in
+            let three : i + 3 ≡ i + 2 + 1 = omega arith in
+            let four : i + 4 ≡ i + 3 + 1 = omega arith in
+            ap (λ (m : ℕ). anyOf p (drop m es)) four ∙ past (i + 3) c (C .is) (sym q ∙ y)
+            ∙ ap (λ (m : ℕ). anyOf p (drop m es)) three ∙ past (i + 2) b (B .is) g
+            ∙ ap (λ (m : ℕ). anyOf p (drop m es)) two ∙ past (i + 1) a (A .is) f
+            ∙ past i i (sym (held-below len i l)) e;
+      }
 
 -- ---- the choice
 

@@ -1,13 +1,13 @@
 // Step 3 of build: which entries stand in the way of which, and the choice of those that are kept.
 ghost use mathlib.Core.Path.{_≡_};
-ghost use Prim.Native.Nat.{_+_, _*_, _≤_, _<_};
-ghost use lib.ListN.{length};
-ghost use lib.Ieee.{lt};
+ghost use Prim.Native.Nat.{ℕ, _+_, _*_, _≤_, _<_};
+ghost use lib.ListN.{length, getD};
+ghost use lib.Ieee.{lt, nan};
 ghost use Rattle.rules.specs.Loops.{anyOf};
-ghost use Rattle.rules.specs.Lists.{entries};
+ghost use Rattle.rules.specs.Lists.{neighbor, entries};
 ghost use Rattle.rules.specs.Distance.{between};
 ghost use Rattle.rules.specs.Build.{cosine, occludes};
-ghost use Rattle.prune.specs.Chosen.{AllBelow, Kept, Chosen};
+ghost use Rattle.prune.specs.Chosen.{AllBelow, FourStand, Kept, Chosen};
 use rules::Neighbor;
 use rules::NodeId;
 
@@ -20,17 +20,9 @@ pub fn occludes(dp: f32, dr: f32, djk: f32, threshold: f32) -> bool
     c > threshold
 }
 
-// Whether the kept `r` occludes `p`; in step 5 an equal node does so too.
-fn stands_before(
-    lanes: &[f32],
-    dimension: usize,
-    threshold: f32,
-    equal_too: bool,
-    p: Neighbor,
-    r: Neighbor,
-) -> bool
-    requires { ⌜ ((p .node .0 + 1) * dimension ≤ length (now lanes)) × ((r .node .0 + 1) * dimension ≤ length (now lanes)) ⌝ }
-    ensures { λ result. ⌜ result ≡ occludes (between (now (lanes .entry)) dimension) threshold «equal_too» p r ⌝ }
+// Whether the kept `r` occludes `p`, with `djk` between them; in step 5 an equal node does so too.
+fn stands_before(threshold: f32, equal_too: bool, p: Neighbor, r: Neighbor, djk: f32) -> bool
+    ensures { λ result. ⌜ result ≡ occludes (λ (i j : ℕ). djk) threshold «equal_too» p r ⌝ }
 {
     let np = p.node;
     let nr = r.node;
@@ -39,8 +31,52 @@ fn stands_before(
             return true;
         }
     }
-    let djk = metrics::between(lanes, dimension, np, nr);
     occludes(p.distance, r.distance, djk, threshold)
+}
+
+// The entry at place `i` of two slices.
+fn entry_at(nodes: &[u32], dists: &[f32], i: usize) -> Neighbor
+    requires { ⌜ (i < length (now nodes)) × (i < length (now dists)) ⌝ }
+    ensures { λ r. ⌜ r ≡ neighbor (getD (now (nodes .entry)) i 0) (getD (now (dists .entry)) i nan) ⌝ }
+{
+    Neighbor {
+        node: NodeId(nodes[i]),
+        distance: dists[i],
+    }
+}
+
+// Whether one of four kept entries occludes `p`: those from `i` on, or the last again where there are fewer. Four distances take little longer than one.
+fn four_stand(
+    lanes: &[f32],
+    dimension: usize,
+    n: usize,
+    threshold: f32,
+    equal_too: bool,
+    nodes: &[u32],
+    dists: &[f32],
+    kept: usize,
+    i: usize,
+    p: Neighbor,
+) -> bool
+    requires { ⌜ (length (now lanes) ≡ n * dimension) × (p .node .0 < n) × AllBelow n (entries kept (now nodes) (now dists)) ⌝ }
+    requires { ⌜ (kept ≤ length (now nodes)) × (kept ≤ length (now dists)) × (i < kept) ⌝ }
+    ensures { λ result. ⌜ FourStand (occludes (between (now (lanes .entry)) dimension) threshold «equal_too» p) (now (nodes .entry)) (now (dists .entry)) kept i result ⌝ }
+{
+    let a = entry_at(nodes, dists, i);
+    let b = entry_at(nodes, dists, kernels::held(kept, i + 1));
+    let c = entry_at(nodes, dists, kernels::held(kept, i + 2));
+    let d = entry_at(nodes, dists, kernels::held(kept, i + 3));
+    let apart = kernels::between4(lanes, dimension, n, p.node, a.node, b.node, c.node, d.node);
+    if stands_before(threshold, equal_too, p, a, apart.a) {
+        return true;
+    }
+    if stands_before(threshold, equal_too, p, b, apart.b) {
+        return true;
+    }
+    if stands_before(threshold, equal_too, p, c, apart.c) {
+        return true;
+    }
+    stands_before(threshold, equal_too, p, d, apart.d)
 }
 
 // Whether one of the first `kept` entries occludes `p`.
@@ -61,14 +97,21 @@ fn occluded(
 {
     let mut i = 0;
     while i < kept {
-        let r = Neighbor {
-            node: NodeId(nodes[i]),
-            distance: dists[i],
-        };
-        if stands_before(lanes, dimension, threshold, equal_too, p, r) {
+        if four_stand(
+            lanes,
+            dimension,
+            n,
+            threshold,
+            equal_too,
+            nodes,
+            dists,
+            kept,
+            i,
+            p,
+        ) {
             return true;
         }
-        i += 1;
+        i += 4;
     }
     false
 }
