@@ -2,4 +2,5 @@
 pub mod Areas
 pub mod Steps
 pub mod Sound
+pub mod Near
 pub mod Expanding

@@ -7,6 +7,7 @@ use lib.Ieee.{Float}
 use Rattle.buffers.specs.Area.{area}
 use Rattle.rules.specs.declared.Neighbor.{Neighbor}
 use Rattle.rules.specs.Lists.{entries}
+use Rattle.lists.specs.Ascending.{AllHoldable, Ascending}
 
 -- where the best set begins among the words, and where the entries found in a row do
 abbrev pub bestAt : ℕ → ℕ
@@ -31,6 +32,11 @@ foundIn n us fs len = entries len (area (foundAt n) 64 us) (area (foundAt n) 64 
 pub record Room (n : ℕ) (us : List ℕ) (fs : List Float) : Type 0 where
   pub words : n + n + 128 ≤ length us
   pub floats : n + n + 128 ≤ length fs
+
+-- the best set is ascending, and lists can hold its distances
+pub record BestSound (n : ℕ) (us : List ℕ) (fs : List Float) (m : ℕ) : Type 0 where
+  pub held : AllHoldable (bestIn n us fs m)
+  pub rising : Ascending (bestIn n us fs m)
 
 -- the queue and the best set are as they were
 pub record QueueKept (n : ℕ) (us : List ℕ) (fs : List Float) (us' : List ℕ) (fs' : List Float) : Type 0 where

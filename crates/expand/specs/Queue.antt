@@ -11,7 +11,7 @@ use Rattle.rules.specs.Rows.{graphRow}
 use Rattle.rules.specs.Search.{Walk, Going, on, unfitAt, expand}
 use Rattle.expand.specs.declared.Counted.{Counted}
 use Rattle.expand.specs.declared.Counted.the-variants.{Count, Unfit}
-use Rattle.expand.specs.Areas.{seenIn, queueIn, bestIn}
+use Rattle.expand.specs.Areas.{seenIn, queueIn, bestIn, BestSound}
 
 -- flags that are set
 abbrev pub one : ℕ → ℕ
@@ -42,6 +42,10 @@ unfoldable pub soundAfter : ℕ → List ℕ → Counted → Type 0
 soundAfter n us (Count tail) = QueueSound n us tail
 soundAfter n us (Unfit v) = Unit
 
+unfoldable pub bestAfter : ℕ → List ℕ → List Float → ℕ → Counted → Type 0
+bestAfter n us fs m (Count tail) = BestSound n us fs m
+bestAfter n us fs m (Unfit v) = Unit
+
 -- a graph of n rows
 pub record Rows (n : ℕ) (graph : List ℕ) (index-size : ℕ) : Type 0 where
   pub long : length graph ≡ n * index-size
@@ -50,5 +54,6 @@ pub record Rows (n : ℕ) (graph : List ℕ) (index-size : ℕ) : Type 0 where
 pub record Expanded (apart : ℕ → Distance) (n : ℕ) (graph : List ℕ) (index-size m takings tail : ℕ) (us : List ℕ) (fs : List Float) (us' : List ℕ) (fs' : List Float) (r : Counted) : Type 0 where
   pub after : (worked : ℕ) → (worked' : ℕ) × (walkAfter n us' fs' m (takings + 1) worked' r ≡ expand apart (graphRow n index-size graph) (walkIn n us fs m tail takings worked))
   pub sound : soundAfter n us' r
+  pub best : bestAfter n us' fs' m r
   pub words : length us' ≡ length us
   pub floats : length fs' ≡ length fs

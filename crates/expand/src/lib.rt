@@ -4,7 +4,7 @@ ghost use Prim.Native.Nat.{_+_, _≤_, _<_};
 ghost use lib.ListN.{length};
 ghost use Rattle.rules.specs.Distance.{queryApart};
 ghost use Rattle.rules.specs.Rows.{liveNodes};
-ghost use Rattle.expand.specs.Areas.{Room};
+ghost use Rattle.expand.specs.Areas.{Room, BestSound};
 ghost use Rattle.expand.specs.Steps.{Lanes, WorkedOut, Visited, Joined, TakenIn};
 ghost use Rattle.expand.specs.Queue.{Rows, QueueSound, Expanded};
 use rules::Distance;
@@ -17,7 +17,7 @@ pub enum Counted {
     Unfit(NodeId),
 }
 
-/// Works the distance of node `v` to the query out, and puts it in order among the `len` entries found.
+/// Works the distance of node `v` to the query out, and puts it in order among the `len` entries found unless it is beyond `far`.
 pub fn work_out(
     lanes: &[f32],
     dimension: usize,
@@ -26,16 +26,20 @@ pub fn work_out(
     words: &mut [u32],
     floats: &mut [f32],
     len: usize,
+    far: f32,
     v: NodeId,
 ) -> Counted
     requires { ⌜ Lanes (now lanes) dimension n (now query) ⌝ }
     requires { ⌜ Room n (now words) (now floats) ⌝ }
     requires { ⌜ (v .0 < n) × (len < 64) ⌝ }
-    ensures { λ r. ⌜ WorkedOut (queryApart (now (lanes .entry)) dimension (now (query .entry))) n (v .0) len (now (words .entry)) (now (floats .entry)) (now (words .exit)) (now (floats .exit)) r ⌝ }
+    ensures { λ r. ⌜ WorkedOut far (queryApart (now (lanes .entry)) dimension (now (query .entry))) n (v .0) len (now (words .entry)) (now (floats .entry)) (now (words .exit)) (now (floats .exit)) r ⌝ }
 {
     let d = metrics::query_distance(lanes, dimension, query, v);
     match d {
         Distance::Fit(x) => {
+            if far < x {
+                return Counted::Count(len);
+            }
             let e = Neighbor {
                 node: v,
                 distance: x,
@@ -58,22 +62,23 @@ fn visit(
     words: &mut [u32],
     floats: &mut [f32],
     len: usize,
+    far: f32,
     v: NodeId,
 ) -> Counted
     requires { ⌜ Lanes (now lanes) dimension n (now query) ⌝ }
     requires { ⌜ Room n (now words) (now floats) ⌝ }
     requires { ⌜ (v .0 < n) × (len < 64) ⌝ }
-    ensures { λ r. ⌜ Visited (queryApart (now (lanes .entry)) dimension (now (query .entry))) n (v .0 ∷ []) len 1 (now (words .entry)) (now (floats .entry)) (now (words .exit)) (now (floats .exit)) r ⌝ }
+    ensures { λ r. ⌜ Visited far (queryApart (now (lanes .entry)) dimension (now (query .entry))) n (v .0 ∷ []) len 1 (now (words .entry)) (now (floats .entry)) (now (words .exit)) (now (floats .exit)) r ⌝ }
 {
     let at = v.0 as usize;
     if words[at] == 1 {
         return Counted::Count(len);
     }
     words[at] = 1;
-    work_out(lanes, dimension, n, query, words, floats, len, v)
+    work_out(lanes, dimension, n, query, words, floats, len, far, v)
 }
 
-/// Visits the members of a row, up to its first value of n or more.
+/// Visits the members of a row, up to its first value of n or more; those beyond `far` are seen and passed over.
 fn visit_row(
     lanes: &[f32],
     dimension: usize,
@@ -82,11 +87,12 @@ fn visit_row(
     row: &[u32],
     words: &mut [u32],
     floats: &mut [f32],
+    far: f32,
 ) -> Counted
     requires { ⌜ Lanes (now lanes) dimension n (now query) ⌝ }
     requires { ⌜ Room n (now words) (now floats) ⌝ }
     requires { ⌜ length (now row) ≤ 64 ⌝ }
-    ensures { λ r. ⌜ Visited (queryApart (now (lanes .entry)) dimension (now (query .entry))) n (liveNodes n (now (row .entry))) 0 64 (now (words .entry)) (now (floats .entry)) (now (words .exit)) (now (floats .exit)) r ⌝ }
+    ensures { λ r. ⌜ Visited far (queryApart (now (lanes .entry)) dimension (now (query .entry))) n (liveNodes n (now (row .entry))) 0 64 (now (words .entry)) (now (floats .entry)) (now (words .exit)) (now (floats .exit)) r ⌝ }
 {
     let mut len: usize = 0;
     let mut j: usize = 0;
@@ -95,7 +101,17 @@ fn visit_row(
         if n <= v as usize {
             return Counted::Count(len);
         }
-        let r = visit(lanes, dimension, n, query, words, floats, len, NodeId(v));
+        let r = visit(
+            lanes,
+            dimension,
+            n,
+            query,
+            words,
+            floats,
+            len,
+            far,
+            NodeId(v),
+        );
         let Counted::Count(more) = r else {
             return r;
         };
@@ -159,6 +175,7 @@ fn take_these(
 }
 
 /// Takes the next node from the queue, of which `takings` have been taken, and expands it; counts the queue's new length.
+/// What is beyond the farthest best is beyond it later too, and would end the row: it is never sorted.
 pub fn expand(
     lanes: &[f32],
     dimension: usize,
@@ -176,6 +193,7 @@ pub fn expand(
     requires { ⌜ Rows n (now graph) «index_size» ⌝ }
     requires { ⌜ Room n (now words) (now floats) ⌝ }
     requires { ⌜ QueueSound n (now words) tail ⌝ }
+    requires { ⌜ BestSound n (now words) (now floats) m ⌝ }
     requires { ⌜ (1 ≤ m) × (m ≤ 64) × (takings < tail) ⌝ }
     ensures { λ r. ⌜ Expanded (queryApart (now (lanes .entry)) dimension (now (query .entry))) n (now (graph .entry)) «index_size» m takings tail (now (words .entry)) (now (floats .entry)) (now (words .exit)) (now (floats .exit)) r ⌝ }
 {
@@ -183,7 +201,18 @@ pub fn expand(
     let q = words[at] as usize;
     let from = q * index_size;
     let to = from + index_size;
-    let r = visit_row(lanes, dimension, n, query, &graph[from..to], words, floats);
+    let last = n + n + m - 1;
+    let far = floats[last];
+    let r = visit_row(
+        lanes,
+        dimension,
+        n,
+        query,
+        &graph[from..to],
+        words,
+        floats,
+        far,
+    );
     let Counted::Count(len) = r else {
         return r;
     };

@@ -2,16 +2,23 @@
 use mathlib.Core.Path.{_∙_}
 use Prim.Native.Nat.{_+_, _-_}
 use native.Mathlib.Omega.{arith}
+use lib.ListN.{getD}
+use lib.Ieee.{nan}
 use denote.Ref.{now}
 use Rattle.expand.proofs.Areas.{room-kept}
-use Rattle.expand.proofs.Expanding.{Next, next, row-is, row-short, found-sound, expanded, expanded-unfit}
+use Rattle.expand.proofs.Near.{query-answers}
+use Rattle.expand.proofs.Expanding.{Next, next, row-is, row-short, found-sound, Best, best-of, expanded, expanded-unfit}
 use borrow.Author.Needs.{needs}
 use Rattle.expand.proofs.expand.Statement.{statement}
 use Rattle.expand.proofs.expand.Tie as tie
 
 -- the node that is taken
 top : (start : tie.Start) → Next (start .args .n) (now (start .args .graph)) (start .args .index-size) (start .args .takings) (start .args .tail) (now (start .args .words))
-top start = next (start .pre .1 .1 .0) (start .pre .1 .1 .1 .0) (start .pre .1 .0) (start .pre .0 .few) (start .pre .1 .1 .1 .1 .2)
+top start = next (start .pre .1 .1 .0) (start .pre .1 .1 .1 .0) (start .pre .1 .0) (start .pre .0 .few) (start .pre .1 .1 .1 .1 .1 .2)
+
+-- the best set, and how far its last is
+best : (start : tie.Start) → Best (start .args .n) (now (start .args .words)) (now (start .args .floats)) (start .args .m) (getD (now (start .args .floats)) (start .args .n + start .args .n + start .args .m - 1) nan)
+best start = best-of (start .pre .1 .1 .0) (start .pre .1 .1 .1 .1 .1 .0) (start .pre .1 .1 .1 .1 .1 .1) (start .pre .1 .1 .1 .1 .0)
 
 add-at : tie.Need-add-at
 add-at c = let b = top (c .before .before .before .before .before) in omega arith
@@ -31,21 +38,41 @@ mul-from c = let b = top (c .before .before .before .before .before .before) in 
 add-to : tie.Need-add-to
 add-to c = let b = top (c .before .before .before .before .before .before) in omega arith
 
+add-last : tie.Need-add-last
+add-last c = let b = top (c .before .before .before .before .before .before) in omega arith
+
+add-last-2 : tie.Need-add-last-2
+add-last-2 c = let b = top (c .before .before .before .before .before .before) in let few = c .before .before .before .before .before .before .pre .1 .1 .1 .1 .1 .1 in omega arith
+
+sub-last : tie.Need-sub-last
+sub-last c = let b = top (c .before .before .before .before .before .before) in let some = c .before .before .before .before .before .before .pre .1 .1 .1 .1 .1 .0 in omega arith
+
+mul-far : tie.Need-mul-far
+mul-far c = let b = top (c .before .before .before .before .before .before) in let few = c .before .before .before .before .before .before .pre .1 .1 .1 .1 .1 .1 in omega arith
+
+slice-read-far : tie.Need-slice-read-far
+slice-read-far c =
+    let pre = c .before .before .before .before .before .before .before .pre in
+    let few = pre .1 .1 .1 .1 .1 .1 in
+    let some = pre .1 .1 .1 .1 .1 .0 in
+    let floats = pre .1 .1 .0 .floats in
+    omega arith
+
 mul-visit-row : tie.Need-mul-visit-row
-mul-visit-row c = let b = top (c .before .before .before .before .before .before) in omega arith
+mul-visit-row c = let b = top (c .before .before .before .before .before .before .before) in omega arith
 
 sub-visit-row : tie.Need-sub-visit-row
-sub-visit-row c = let b = top (c .before .before .before .before .before .before) in omega arith
+sub-visit-row c = let b = top (c .before .before .before .before .before .before .before) in omega arith
 
 part-visit-row-start : tie.Need-part-visit-row-start
-part-visit-row-start c = let b = top (c .before .before .before .before .before .before) in omega arith
+part-visit-row-start c = let b = top (c .before .before .before .before .before .before .before) in omega arith
 
 part-visit-row-end : tie.Need-part-visit-row-end
-part-visit-row-end c = let b = top (c .before .before .before .before .before .before) in omega arith
+part-visit-row-end c = let b = top (c .before .before .before .before .before .before .before) in omega arith
 
 visit-row-requires : tie.Need-visit-row-requires
 visit-row-requires c κs =
-    let start = c .before .before .before .before .before .before .before .before .before in
+    let start = c .before .before .before .before .before .before .before .before .before .before in
     (start .pre .0, (start .pre .1 .1 .0, row-short _ _ _ (start .pre .1 .0 .narrow)))
 
 enum-known-r : tie.Need-enum-known-r
@@ -63,16 +90,16 @@ same-length-2 c = c .before .before .before .before .before .before .visit-row .
 returns : tie.Need-returns
 returns c =
     let done = c .before .before .before .before .before .before in
-    let start = done .before .before .before .before .before .before .before .before .before .before in
-    expanded-unfit _ _ _ _ _ _ _ _ _ (top start) (row-is _ _ _) (c .enum-told .given .1) (done .visit-row .ensures)
+    let start = done .before .before .before .before .before .before .before .before .before .before .before in
+    expanded-unfit _ _ _ _ _ _ _ _ _ (top start) (query-answers _ _ _) (best start .held) (row-is _ _ _) (c .enum-told .given .1) (done .visit-row .ensures)
 
 take-these-requires : tie.Need-take-these-requires
 take-these-requires c κs =
     let done = c .before .before .before .before .before .before .before .before .before in
-    let start = done .before .before .before .before .before .before .before .before .before .before in
+    let start = done .before .before .before .before .before .before .before .before .before .before .before in
     let v = done .visit-row .ensures in
-    let fine = found-sound _ (start .pre .1 .1 .0) (start .pre .1 .1 .1 .0 .few) (rw (c .before .before .before .r .given .1) at v) in
-    let p = start .pre .1 .1 .1 .1 in
+    let fine = found-sound (best start .held) (query-answers _ _ _) _ (start .pre .1 .1 .0) (start .pre .1 .1 .1 .0 .few) (rw (c .before .before .before .r .given .1) at v) in
+    let p = start .pre .1 .1 .1 .1 .1 in
     (room-kept (start .pre .1 .1 .0) (v .kept .words) (v .kept .floats), (p .0, p .1, fine .short, fine .most))
 
 same-length-3 : tie.Need-same-length-3
@@ -85,8 +112,8 @@ returns-2 : tie.Need-returns-2
 returns-2 c =
     let took = c .before .before .before .before in
     let done = took .before .before .before .before .before .before .before .before .before .before in
-    let start = done .before .before .before .before .before .before .before .before .before .before in
-    expanded _ _ _ _ _ _ _ _ _ (top start) (start .pre .1 .1 .0) (start .pre .1 .1 .1 .0) (row-is _ _ _)
+    let start = done .before .before .before .before .before .before .before .before .before .before .before in
+    expanded _ _ _ _ _ _ _ _ _ (top start) (query-answers _ _ _) (best start) (start .pre .1 .1 .0) (start .pre .1 .1 .1 .0) (row-is _ _ _)
     (rw (took .before .before .before .before .r .given .1) at (done .visit-row .ensures)) (took .take-these .ensures)
 
 pub expand-spec : {M : Type 1} → statement M
@@ -99,6 +126,11 @@ expand-spec =
     cast-q
     mul-from
     add-to
+    add-last
+    add-last-2
+    sub-last
+    mul-far
+    slice-read-far
     mul-visit-row
     sub-visit-row
     part-visit-row-start

@@ -19,7 +19,7 @@ slice-read-if1 c = search needs
 returns : tie.Need-returns
 returns c =
     let start = c .before .before .before .before .before .before .before in
-    visited-before _ _ _ _ _ _ (start .pre .1 .1 .0) (c .if1 .taken)
+    visited-before _ _ _ _ _ _ _ (start .pre .1 .1 .0) (c .if1 .taken)
 
 mul-words : tie.Need-mul-words
 mul-words c = search needs
@@ -45,7 +45,7 @@ returns-2 c =
     let done = c .before .before .before .before in
     let at = done .before .before .before in
     let start = at .before .before .before .before .before .before .before in
-    visited-now _ _ _ _ _ _ (start .pre .1 .1 .0) _ (at .if1 .left) (done .work-out .ensures)
+    visited-now _ _ _ _ _ _ _ (start .pre .1 .1 .0) _ (at .if1 .left) (done .work-out .ensures)
 
 pub visit-spec : {M : Type 1} → statement M
 visit-spec =

@@ -10,13 +10,13 @@ use Rattle.expand.proofs.visit_row.Statement.{statement}
 use Rattle.expand.proofs.visit_row.Tie as tie
 
 abbrev Inv-loop : tie.InvT-loop
-Inv-loop lanes dimension n query row words₀ floats₀ len₀ j₀ words floats len j = Visiting (queryApart lanes dimension query) n row words₀ floats₀ words floats len j
+Inv-loop lanes dimension n query row words₀ floats₀ far len₀ j₀ words floats len j = Visiting far (queryApart lanes dimension query) n row words₀ floats₀ words floats len j
 
 abbrev μ-loop : tie.MeasureT-loop
-μ-loop lanes dimension n query row words₀ floats₀ len₀ j₀ words floats len j = length row - j
+μ-loop lanes dimension n query row words₀ floats₀ far len₀ j₀ words floats len j = length row - j
 
 loop-holds : tie.Need-loop-holds Inv-loop μ-loop
-loop-holds c = visiting-none _ _ _ _ _
+loop-holds c = visiting-none _ _ _ _ _ _
 
 mul-v : tie.Need-mul-v Inv-loop μ-loop
 mul-v c = search needs

@@ -4,7 +4,7 @@ use Prim.Native.Nat.{_+_, _-_}
 use native.Mathlib.Omega.{arith}
 use Rattle.metrics.proofs.Steps.{room}
 use Rattle.expand.proofs.Areas.{found-pushed-by}
-use Rattle.expand.proofs.Steps.{worked-fit, worked-unfit}
+use Rattle.expand.proofs.Steps.{worked-fit, worked-far, worked-unfit}
 use borrow.Author.Needs.{needs}
 use Rattle.expand.proofs.work_out.Statement.{statement}
 use Rattle.expand.proofs.work_out.Tie as tie
@@ -16,6 +16,12 @@ query-distance-requires c κs =
 
 enum-known-d : tie.Need-enum-known-d
 enum-known-d c = search needs
+
+returns : tie.Need-returns
+returns c =
+    let told = c .before in
+    let worked = told .before .before .before in
+    worked-far _ _ _ _ _ _ _ (sym (worked .query-distance .ensures) ∙ told .before .d .given .1) (c .if1 .taken)
 
 add-from : tie.Need-add-from
 add-from c = search needs
@@ -62,21 +68,22 @@ same-length c = search needs
 same-length-2 : tie.Need-same-length-2
 same-length-2 c = search needs
 
-returns : tie.Need-returns
-returns c =
+returns-2 : tie.Need-returns-2
+returns-2 c =
     let put = c .before .before .before .before in
-    let told = put .before .before .before in
+    let near = put .before .before .before in
+    let told = near .before in
     let worked = told .before .before .before in
     let start = worked .before .before .before .before .before in
     let n = start .args .n in
     let e : n + n + 64 + 64 - (n + n + 64) ≡ 64 = omega arith in
-    worked-fit _ _ _ _ _ _ (sym (worked .query-distance .ensures) ∙ told .before .d .given .1)
+    worked-fit _ _ _ _ _ _ _ (sym (worked .query-distance .ensures) ∙ told .before .d .given .1) (near .if1 .left)
     (found-pushed-by n _ _ (start .pre .1 .0) _ e (put .push .ensures))
 
-returns-2 : tie.Need-returns-2
-returns-2 c =
+returns-3 : tie.Need-returns-3
+returns-3 c =
     let worked = c .before .before in
-    worked-unfit _ _ _ _ _ _ (sym (worked .query-distance .ensures) ∙ c .enum-told .given .1)
+    worked-unfit _ _ _ _ _ _ _ (sym (worked .query-distance .ensures) ∙ c .enum-told .given .1)
 
 pub work-out-spec : {M : Type 1} → statement M
 work-out-spec =
@@ -84,6 +91,7 @@ work-out-spec =
     (tie.spec
     query-distance-requires
     enum-known-d
+    returns
     add-from
     add-from-2
     add-to
@@ -99,5 +107,5 @@ work-out-spec =
     enum-told
     same-length
     same-length-2
-    returns
-    returns-2)
+    returns-2
+    returns-3)
