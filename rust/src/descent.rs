@@ -89,10 +89,45 @@ impl<'p> Descent<'p> {
         Ok(descent)
     }
 
-    /// One iteration. `draws` are at least [`lengths::iterate_draws`]. A refusal (11) leaves the descent as it was.
+    /// A descent from a state that was kept: any well-formed one may be iterated (docs/LAYOUT.md). It is judged by [`Descent::iterate`], not here.
+    pub fn with_state(
+        points: &'p Points,
+        k: usize,
+        s: usize,
+        words: Vec<u32>,
+        floats: Vec<f32>,
+    ) -> Descent<'p> {
+        Descent {
+            points,
+            k,
+            s,
+            words,
+            floats,
+            scratch: Scratch::new(),
+        }
+    }
+
+    /// One iteration. `draws` are at least [`lengths::iterate_draws`]. A refusal leaves the descent as it was: 11, and of a state that was kept
+    /// also 1, 2, 3, 4, 6, 10 and 12.
+    ///
+    /// ```
+    /// use spoonmeadow::{lengths, Descent, Points};
+    /// let points = Points::new(1, vec![0.0, 1.0, 3.0, 7.0]);
+    /// let mut descent = Descent::begin(&points, 2, 2, &vec![1; lengths::begin_draws(4, 2)])?;
+    /// let draws: Vec<u32> = (0..lengths::iterate_draws(4, 2) as u32).collect();
+    /// let answer = descent.iterate(&draws)?;
+    /// assert_eq!(answer.new, (0..4).map(|u| descent.lists().list(u).len()).sum());
+    /// assert_eq!(descent.iterate(&[]).unwrap_err().to_string(), "11: there are too few draws");
+    /// # Ok::<(), spoonmeadow::Refusal>(())
+    /// ```
     pub fn iterate(&mut self, draws: &[u32]) -> Result<Iterated, Refusal> {
         let n = self.points.n();
-        let (words, floats) = self.scratch.of(lengths::taught_scratch(n));
+        let passes = lengths::taught(n, self.k);
+        let (words, floats) = self.scratch.of(if passes {
+            lengths::taught_scratch(n)
+        } else {
+            0
+        });
         // SAFETY: every pointer and count is a slice's, and the mutable ones are of buffers of their own.
         let answer = unsafe {
             raw::spoonmeadow_iterate(
@@ -122,15 +157,15 @@ impl<'p> Descent<'p> {
         told(Call::Iterate, said)?;
         Ok(Iterated {
             cost: answer.cost,
-            new: answer.new,
+            new: answer.total,
         })
     }
 
     /// The lists as they are.
     pub fn lists(&self) -> Lists {
         let n = self.points.n();
-        let nodes = self.words[..lengths::lists(n, self.k)].to_vec();
-        Lists::of_parts(n, self.k, nodes, self.floats.clone())
+        let nodes = self.words.get(..lengths::lists(n, self.k)).unwrap_or(&[]);
+        Lists::of_parts(n, self.k, nodes.to_vec(), self.floats.clone())
     }
 
     /// The words of the state, by docs/LAYOUT.md.

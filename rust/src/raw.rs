@@ -32,7 +32,7 @@ pub struct Iterated {
     pub first: usize,
     pub second: usize,
     pub cost: usize,
-    pub new: usize,
+    pub total: usize,
 }
 
 extern "C" {

@@ -1,5 +1,5 @@
-//! The oracle's own answers over the boundary: every build, search, begin and relay of oracle/lists/small.txt, which hora's Rust made.
-use spoonmeadow::{lengths, Descent, Game, Lists, Params, Points, Relay};
+//! The oracle's own answers over the boundary: every build, search, descent, iteration and relay of oracle/lists/small.txt, which hora's Rust made.
+use spoonmeadow::{Descent, Game, Lists, Params, Points, Relay};
 
 /// A list as its numbers (oracle/README.md, "The format"), read from the front.
 struct Numbers(std::vec::IntoIter<u32>);
@@ -93,29 +93,35 @@ fn search(list: &mut Numbers) {
     assert_eq!(found.takings, list.one());
 }
 
+fn iterate(list: &mut Numbers, descent: &mut Descent, draws: &[u32], n: usize, k: usize) {
+    let answer = descent.iterate(draws).unwrap();
+    assert_eq!((answer.cost, answer.new), (list.one(), list.one()));
+    let (words, lists) = list.state(n, k);
+    assert_eq!(descent.words(), words);
+    assert_eq!(descent.lists(), lists);
+}
+
 fn descent(list: &mut Numbers) {
     let (d, n, k, s) = (list.one(), list.one(), list.one(), list.one());
     let points = Points::new(d, list.floats(n * d));
     let draws = list.run();
     let turns: Vec<Vec<u32>> = (0..list.one()).map(|_| list.run()).collect();
-    let descent = Descent::begin(&points, k, s, &draws).unwrap();
+    let mut descent = Descent::begin(&points, k, s, &draws).unwrap();
     let (words, lists) = list.state(n, k);
     assert_eq!(descent.words(), words);
     assert_eq!(descent.lists(), lists);
     for draws in turns {
-        assert!(draws.len() >= lengths::iterate_draws(n, k));
-        list.words(2);
-        list.state(n, k);
+        iterate(list, &mut descent, &draws, n, k);
     }
 }
 
-fn pass_iteration(list: &mut Numbers) {
-    let (d, n, k, _s) = (list.one(), list.one(), list.one(), list.one());
-    list.words(n * d);
-    list.state(n, k);
-    list.run();
-    list.words(2);
-    list.state(n, k);
+fn iteration(list: &mut Numbers) {
+    let (d, n, k, s) = (list.one(), list.one(), list.one(), list.one());
+    let points = Points::new(d, list.floats(n * d));
+    let (words, lists) = list.state(n, k);
+    let draws = list.run();
+    let mut descent = Descent::with_state(&points, k, s, words, lists.distances().to_vec());
+    iterate(list, &mut descent, &draws, n, k);
 }
 
 fn relay(list: &mut Numbers) {
@@ -161,7 +167,7 @@ fn the_small_list() {
             1 => build(&mut list),
             2 => search(&mut list),
             3 => descent(&mut list),
-            4 => pass_iteration(&mut list),
+            4 => iteration(&mut list),
             5 => relay(&mut list),
             _ => panic!("kind {kind}"),
         }

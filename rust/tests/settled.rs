@@ -159,6 +159,17 @@ fn refusals_of_a_descent_in_words() {
         begin(usize::MAX, 2, &[1; 16]),
         "4: a whole-number parameter is outside its range"
     );
+    let mut torn = Descent::with_state(&points, 2, 2, vec![7; 1049], vec![0.0; 8]);
+    assert_eq!(
+        words(torn.iterate(&[1; 16])),
+        "12: the lists or the state are not well formed"
+    );
+    let mut short = Descent::with_state(&points, 2, 2, vec![], vec![]);
+    assert_eq!(
+        words(short.iterate(&[1; 16])),
+        "6: a lent buffer has the wrong length"
+    );
+    assert!(short.lists().list(0).is_empty());
     let many = Points::new(1, vec![0.0; 1025]);
     assert_eq!(
         words(Descent::begin(&many, 2, 2, &[])),
