@@ -6,15 +6,13 @@ use rules::Answer;
 // The distance of an unfilled entry, 0x7F7FFFFF by its bits.
 const EMPTY: f32 = 340282346638528859811704183484516925440.0;
 
-/// The numbers of a call, and how long each slice is that it lends.
+/// The numbers of a call, and how long the lists, the state and scratch are that it lends.
 pub struct Call {
     pub dimension: usize,
     pub n: usize,
     pub k: usize,
-    pub lanes: usize,
     pub nodes: usize,
     pub dists: usize,
-    pub jobs: usize,
     pub words: usize,
     pub floats: usize,
     pub scratch_u: usize,
@@ -104,103 +102,21 @@ fn in_places(c: Call, lanes: &[f32], nodes: &[u32], dists: &[f32], jobs: &[u32])
     );
 }
 
-// The call on the parts of given places that are as long as it says.
+// The call on the parts of the lists that are as long as it says.
 fn cut(c: Call, lanes: &[f32], nodes: &[u32], dists: &[f32], jobs: &[u32]) {
-    let lanes_long = cases::least(c.lanes, lanes.len());
     let nodes_long = cases::least(c.nodes, nodes.len());
     let dists_long = cases::least(c.dists, dists.len());
-    let jobs_long = cases::least(c.jobs, jobs.len());
-    in_places(
-        c,
-        &lanes[..lanes_long],
-        &nodes[..nodes_long],
-        &dists[..dists_long],
-        &jobs[..jobs_long],
-    );
+    in_places(c, lanes, &nodes[..nodes_long], &dists[..dists_long], jobs);
 }
 
 /// A call on given lanes and jobs, on lists that are unfilled but for two entries.
-pub fn lend(name: &[u8], c: Call, lanes: &[f32], jobs: &[u32], e: Entry, f: Entry) {
+pub fn lend(number: u32, c: Call, lanes: &[f32], jobs: &[u32], e: Entry, f: Entry) {
     let mut nodes = [4u32; 256];
     let mut dists = [EMPTY; 256];
     relays::put_word(&mut nodes, e.at, e.node);
     relays::put_float(&mut dists, e.at, e.dist);
     relays::put_word(&mut nodes, f.at, f.node);
     relays::put_float(&mut dists, f.at, f.dist);
-    io::write_all(STDOUT_FILENO, name);
+    refusals::put_word(b"case ", number);
     cut(c, lanes, &nodes, &dists, jobs);
-}
-
-/// No entry.
-pub fn none() -> Entry {
-    Entry {
-        at: refusals::LARGEST,
-        node: 0,
-        dist: 0.0,
-    }
-}
-
-/// An entry behind an unfilled one.
-pub fn behind() -> Entry {
-    Entry {
-        at: 1,
-        node: 1,
-        dist: 1.0,
-    }
-}
-
-/// The numbers and lengths of square I.
-pub fn usual() -> Call {
-    Call {
-        dimension: 1,
-        n: 4,
-        k: 2,
-        lanes: 4,
-        nodes: 8,
-        dists: 8,
-        jobs: 6,
-        words: 1292,
-        floats: 328,
-        scratch_u: 6144,
-        scratch_f: 6144,
-    }
-}
-
-/// A call as square I's on lists with two entries.
-pub fn on_entries(name: &[u8], e: Entry, f: Entry) {
-    let lanes = [0.0f32, 1.0, 3.0, 7.0];
-    let jobs = [0u32, 1, 0, 3, 0, 2];
-    lend(name, usual(), &lanes, &jobs, e, f);
-}
-
-/// A call as square I's on lists with one entry.
-pub fn on_entry(name: &[u8], at: usize, node: u32, dist: f32) {
-    let e = Entry {
-        at: at,
-        node: node,
-        dist: dist,
-    };
-    on_entries(name, e, none());
-}
-
-/// A call as square I's on lists whose first has these two entries.
-pub fn on_list(name: &[u8], node: u32, dist: f32, other: u32, far: f32) {
-    let e = Entry {
-        at: 0,
-        node: node,
-        dist: dist,
-    };
-    let f = Entry {
-        at: 1,
-        node: other,
-        dist: far,
-    };
-    on_entries(name, e, f);
-}
-
-/// A call as square I's, but for its numbers and lengths; with a place more in the lanes and a job more in the jobs.
-pub fn as_i(name: &[u8], c: Call) {
-    let lanes = [0.0f32, 1.0, 3.0, 7.0, 15.0];
-    let jobs = [0u32, 1, 0, 3, 0, 2, 1, 1];
-    lend(name, c, &lanes, &jobs, none(), none());
 }

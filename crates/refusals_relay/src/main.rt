@@ -3,7 +3,6 @@
 use call::Lent;
 use call::State;
 use cases::Cursor;
-use libc::STDOUT_FILENO;
 
 mod call;
 
@@ -19,22 +18,6 @@ struct Damage {
     cursor: Cursor,
 }
 
-// A number; the largest word stands for the largest.
-fn wide(word: u32) -> usize {
-    if word == 0xFFFF_FFFF {
-        return refusals::LARGEST;
-    }
-    word as usize
-}
-
-// The float of some bits, a NaN too.
-fn float_of(bits: u32) -> f32 {
-    if bits == 0x7FC0_0000 {
-        return refusals::nan();
-    }
-    cases::float(bits)
-}
-
 fn read_numbers(text: &[u8], c: Cursor) -> Numbers {
     let n = cases::read_word(text, c);
     let k = cases::read_word(text, n.cursor);
@@ -47,14 +30,14 @@ fn read_numbers(text: &[u8], c: Cursor) -> Numbers {
     let cursor = reports.cursor;
     Numbers {
         lent: Lent {
-            n: wide(n.value),
-            k: wide(k.value),
-            job: wide(job.value),
-            words: wide(words.value),
-            floats: wide(floats.value),
-            nodes: wide(nodes.value),
-            dists: wide(dists.value),
-            reports: wide(reports.value),
+            n: relays::wide(n.value),
+            k: relays::wide(k.value),
+            job: relays::wide(job.value),
+            words: relays::wide(words.value),
+            floats: relays::wide(floats.value),
+            nodes: relays::wide(nodes.value),
+            dists: relays::wide(dists.value),
+            reports: relays::wide(reports.value),
         },
         cursor: cursor,
     }
@@ -72,14 +55,14 @@ fn read_damage(text: &[u8], c: Cursor) -> Damage {
     let cursor = float.cursor;
     Damage {
         state: State {
-            first: wide(first.value),
-            rest: wide(rest.value),
-            at: wide(at.value),
+            first: relays::wide(first.value),
+            rest: relays::wide(rest.value),
+            at: relays::wide(at.value),
             word: word.value,
-            also: wide(also.value),
+            also: relays::wide(also.value),
             other: other.value,
-            float_at: wide(float_at.value),
-            float: float_of(float.value),
+            float_at: relays::wide(float_at.value),
+            float: relays::float_of(float.value),
         },
         cursor: cursor,
     }
@@ -103,12 +86,6 @@ fn one_case(text: &[u8], c: Cursor, number: u32, kind: u32) -> Cursor {
     cursor
 }
 
-fn put_end(cases_passed: u32, c: Cursor) {
-    refusals::put_word(b"cases: ", cases_passed);
-    refusals::put_word(b", fault: ", c.fault);
-    io::write_all(STDOUT_FILENO, b"\n");
-}
-
 // A proved loop has to end: it counts its turns down, from more cases than a list has.
 fn all_cases(text: &[u8]) {
     let mut turns: u32 = 65536;
@@ -118,7 +95,7 @@ fn all_cases(text: &[u8]) {
         let case = replays::next_case(text, cursor, passed);
         let behind = case.cursor;
         if case.kind == 0 {
-            put_end(passed, behind);
+            relays::put_end(passed, behind);
             return;
         }
         passed = std::num::wrapping_add_u32(passed, 1);

@@ -1,9 +1,26 @@
-// The common ground of the programs over a relay: places inside its state, words and floats put there, and floats by their bits.
+// The common ground of the programs over a relay: the numbers of a case, places inside a state, and floats by their bits.
 use cases::Cursor;
+use libc::STDOUT_FILENO;
 use replays::Compared;
 
 fn sum(a: usize, b: usize) -> usize {
     std::num::wrapping_add_usize(a, b)
+}
+
+/// A number of a case; the largest word stands for the largest.
+pub fn wide(word: u32) -> usize {
+    if word == 0xFFFF_FFFF {
+        return refusals::LARGEST;
+    }
+    word as usize
+}
+
+/// The float of a case's bits, a NaN too.
+pub fn float_of(bits: u32) -> f32 {
+    if bits == 0x7FC0_0000 {
+        return refusals::nan();
+    }
+    cases::float(bits)
 }
 
 /// A word as a place.
@@ -122,4 +139,11 @@ pub fn print_words(words: &[u32], count: usize) {
         refusals::put_word(b" ", words[i]);
         i += 1;
     }
+}
+
+/// Prints how many cases were passed, and the reader's fault.
+pub fn put_end(passed: u32, c: Cursor) {
+    refusals::put_word(b"cases: ", passed);
+    refusals::put_word(b", fault: ", c.fault);
+    io::write_all(STDOUT_FILENO, b"\n");
 }

@@ -11,23 +11,11 @@ least-requires c κs = search needs
 least-requires-2 : tie.Need-least-requires-2
 least-requires-2 c κs = search needs
 
-least-requires-3 : tie.Need-least-requires-3
-least-requires-3 c κs = search needs
-
-least-requires-4 : tie.Need-least-requires-4
-least-requires-4 c κs = search needs
-
 slice-aggregate-in-places : tie.Need-slice-aggregate-in-places
 slice-aggregate-in-places c = simp length-take (omega arith)
 
 slice-aggregate-in-places-2 : tie.Need-slice-aggregate-in-places-2
 slice-aggregate-in-places-2 c = simp length-take (omega arith)
-
-slice-aggregate-in-places-3 : tie.Need-slice-aggregate-in-places-3
-slice-aggregate-in-places-3 c = simp length-take (omega arith)
-
-slice-aggregate-in-places-4 : tie.Need-slice-aggregate-in-places-4
-slice-aggregate-in-places-4 c = simp length-take (omega arith)
 
 in-places-requires : tie.Need-in-places-requires
 in-places-requires c κs = search needs
@@ -41,11 +29,7 @@ cut-spec =
     (tie.spec
     least-requires
     least-requires-2
-    least-requires-3
-    least-requires-4
     slice-aggregate-in-places
     slice-aggregate-in-places-2
-    slice-aggregate-in-places-3
-    slice-aggregate-in-places-4
     in-places-requires
     returns)
