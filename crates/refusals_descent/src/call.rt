@@ -26,8 +26,8 @@ pub struct Call {
     pub floats: usize,
 }
 
-/// The distance of an unfilled entry.
-pub fn empty() -> f32 {
+// The distance of an unfilled entry.
+fn empty() -> f32 {
     cases::float(0x7F7F_FFFF)
 }
 
@@ -51,15 +51,15 @@ fn fill_empty(floats: &mut [f32]) {
     }
 }
 
-/// Writes a word, where there is such a place.
-pub fn put_at(words: &mut [u32], at: usize, word: u32) {
+// Writes a word, where there is such a place.
+fn put_at(words: &mut [u32], at: usize, word: u32) {
     if at < words.len() {
         words[at] = word;
     }
 }
 
-/// Writes an entry of a list, where there is such a place.
-pub fn put_entry(words: &mut [u32], floats: &mut [f32], at: usize, node: u32, distance: f32) {
+// Writes an entry of a list, where there is such a place.
+fn put_entry(words: &mut [u32], floats: &mut [f32], at: usize, node: u32, distance: f32) {
     put_at(words, at, node);
     if at < floats.len() {
         floats[at] = distance;
@@ -178,13 +178,12 @@ fn left(answer: IterateAnswer, stands: bool, words: &[u32], floats: &[f32]) -> L
     }
 }
 
-fn put_name(c: Call, name: &[u8]) {
+fn put_number(c: Call, number: u32) {
     if c.begins {
-        io::write_all(STDOUT_FILENO, b"begin ");
-    } else {
-        io::write_all(STDOUT_FILENO, b"iterate ");
+        refusals::put_word(b"begin ", number);
+        return;
     }
-    io::write_all(STDOUT_FILENO, name);
+    refusals::put_word(b"iterate ", number);
 }
 
 // The call. A begin answers no counts.
@@ -231,7 +230,7 @@ fn asked(
 
 /// The call on the slices it lends, scratch full of junk; `given_u` and `given_f` are its state as it was.
 pub fn called(
-    name: &[u8],
+    number: u32,
     c: Call,
     lanes: &[f32],
     draws: &[u32],
@@ -244,7 +243,7 @@ pub fn called(
 ) {
     refusals::fill_scratch(words, floats);
     let answer = asked(c, lanes, draws, state_u, state_f, words, floats);
-    put_name(c, name);
+    put_number(c, number);
     said(c, answer, state_u);
     let as_given = stands(state_u, state_f, given_u, given_f);
     refusals::put_left(left(answer, as_given, words, floats));
@@ -264,7 +263,7 @@ fn copy_state(given_u: &[u32], given_f: &[f32], state_u: &mut [u32], state_f: &m
 
 // The call on a copy of the given state.
 fn on_copy(
-    name: &[u8],
+    number: u32,
     c: Call,
     lanes: &[f32],
     draws: &[u32],
@@ -277,7 +276,7 @@ fn on_copy(
 ) {
     copy_state(given_u, given_f, state_u, state_f);
     called(
-        name,
+        number,
         c,
         lanes,
         draws,
@@ -292,7 +291,7 @@ fn on_copy(
 
 // The call on parts of our own state that are as long as what is given.
 fn with_state(
-    name: &[u8],
+    number: u32,
     c: Call,
     lanes: &[f32],
     draws: &[u32],
@@ -306,7 +305,7 @@ fn with_state(
     let u_long = cases::least(given_u.len(), state_u.len());
     let f_long = cases::least(given_f.len(), state_f.len());
     on_copy(
-        name,
+        number,
         c,
         lanes,
         draws,
@@ -321,7 +320,7 @@ fn with_state(
 
 // The call on the parts of given places and of our own that are as long as it says.
 fn cut(
-    name: &[u8],
+    number: u32,
     c: Call,
     lanes: &[f32],
     draws: &[u32],
@@ -337,7 +336,7 @@ fn cut(
     let words_long = cases::least(c.words, words.len());
     let floats_long = cases::least(c.floats, floats.len());
     with_state(
-        name,
+        number,
         c,
         &lanes[..lanes_long],
         &draws[..draws_long],
@@ -349,13 +348,13 @@ fn cut(
 }
 
 /// A call on given lanes and a given state, and on scratch of our own; the draws are 6, 7, 8 and so on.
-pub fn lend(name: &[u8], c: Call, lanes: &[f32], given_u: &[u32], given_f: &[f32]) {
+pub fn lend(number: u32, c: Call, lanes: &[f32], given_u: &[u32], given_f: &[f32]) {
     let mut draws = [0u32; 513];
     let mut words = [0u32; 8192];
     let mut floats = [0.0f32; 8192];
     refusals::fill_words(&mut draws, 6);
     cut(
-        name,
+        number,
         c,
         lanes,
         &draws,
@@ -364,36 +363,4 @@ pub fn lend(name: &[u8], c: Call, lanes: &[f32], given_u: &[u32], given_f: &[f32
         &mut words,
         &mut floats,
     );
-}
-
-/// A call on given lanes and the state that fits its numbers.
-pub fn on_lanes(name: &[u8], c: Call, lanes: &[f32]) {
-    let mut given_u = [0u32; 2098];
-    let mut given_f = [0.0f32; 256];
-    write_state(c, &mut given_u, &mut given_f);
-    lend(name, c, lanes, &given_u, &given_f);
-}
-
-/// A call on the settled squares' lanes, with more behind them.
-pub fn on(name: &[u8], c: Call) {
-    let lanes = [0.0f32, 1.0, 3.0, 7.0, 15.0, 31.0, 63.0, 127.0];
-    on_lanes(name, c, &lanes);
-}
-
-/// Four nodes, k 2 and s 1, with the lengths that fit them.
-pub fn usual(begins: bool) -> Call {
-    Call {
-        begins: begins,
-        shown: false,
-        dimension: 1,
-        n: 4,
-        k: 2,
-        s: 1,
-        lanes: 4,
-        draws: 17,
-        state_u: 1049,
-        state_f: 8,
-        words: 6144,
-        floats: 6144,
-    }
 }
