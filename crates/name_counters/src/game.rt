@@ -1,6 +1,22 @@
 // Reads a game: games/README.md gives the lines of its file.
 use crate::lines;
 use crate::lines::Word;
+use params::SsgParams;
+
+// The kinds of a line, by its first word; the first two have a name and lanes.
+const COUNTER: u32 = 0;
+
+const QUERY: u32 = 1;
+
+const NAMED_LANES: u32 = 2;
+
+const TEACH: u32 = 3;
+
+const NAMES: u32 = 4;
+
+const ROOTS: u32 = 5;
+
+const OTHER: u32 = 6;
 
 /// Nothing is wrong.
 pub const FINE: u32 = 0;
@@ -26,13 +42,8 @@ pub struct Game {
     pub asked: usize,
     pub roots: usize,
     pub k: usize,
-    pub init_k: usize,
-    pub index_size: usize,
-    pub hops: usize,
-    pub threshold: f32,
+    pub params: SsgParams,
     pub title: usize,
-    pub named: usize,
-    pub filled: usize,
     pub fault: u32,
     pub place: usize,
 }
@@ -44,19 +55,15 @@ struct Reading {
 }
 
 fn nothing() -> Game {
+    let params = SsgParams::default();
     Game {
         dimension: 0,
         n: 0,
         asked: 0,
         roots: 0,
         k: 1,
-        init_k: 64,
-        index_size: 64,
-        hops: 100,
-        threshold: 0.5,
+        params: params,
         title: 0,
-        named: 0,
-        filled: 0,
         fault: FINE,
         place: 0,
     }
@@ -145,21 +152,29 @@ fn lanes_line(text: &[u8], g: Game, at: usize) -> Game {
     r
 }
 
+// The sizes and the threshold of a build.
+fn with_params(g: Game, sizes: &[u32; 3], threshold: f32) -> Game {
+    let params = SsgParams {
+        threshold: threshold,
+        init_k: sized(sizes[0]),
+        index_size: sized(sizes[1]),
+        neighbor_neighbor_size: sized(sizes[2]),
+    };
+    let mut r = g;
+    r.params = params;
+    r
+}
+
 // `teach INIT_K INDEX_SIZE NEIGHBOR_NEIGHBOR_SIZE THRESHOLD`
 fn teach_line(text: &[u8], g: Game, at: usize) -> Game {
     let mut sizes = [0u32; 3];
+    let mut threshold = [0.0f32; 1];
     let a = read_wholes(text, at, &mut sizes);
     if a.fault != FINE {
         return wrong(g, a.fault, a.at);
     }
-    let mut threshold = [0.0f32; 1];
     let b = read_values(text, a.at, &mut threshold);
-    let mut r = g;
-    r.init_k = sized(sizes[0]);
-    r.index_size = sized(sizes[1]);
-    r.hops = sized(sizes[2]);
-    r.threshold = threshold[0];
-    after(text, r, b)
+    after(text, with_params(g, &sizes, threshold[0]), b)
 }
 
 // `names K`
@@ -183,67 +198,102 @@ fn roots_line(text: &[u8], g: Game, at: usize, roots: &mut [u32]) -> Game {
     after(text, r, a)
 }
 
-// A name and its lanes, behind all that are there.
-fn point_line(text: &[u8], g: Game, at: usize, points: &mut [f32], names: &mut [usize]) -> Game {
-    let name = lines::next_word(text, at);
-    let i = g.named;
-    let a = g.filled;
-    if i >= names.len() {
-        return wrong(g, ROOM, name.start);
-    }
-    if a > points.len() {
-        return wrong(g, ROOM, name.start);
-    }
-    if g.dimension > points.len() - a {
-        return wrong(g, ROOM, name.start);
-    }
-    names[i] = name.start;
-    let e = a + g.dimension;
-    let read = read_values(text, name.end, &mut points[a..e]);
+// One counter or query more: counters stand before queries.
+fn with_point(g: Game, kind: u32, at: usize) -> Game {
     let mut r = g;
-    r.named = std::num::wrapping_add_usize(i, 1);
-    r.filled = e;
-    after(text, r, read)
-}
-
-// `counter NAME LANE..`
-fn counter_line(text: &[u8], g: Game, at: usize, points: &mut [f32], names: &mut [usize]) -> Game {
-    if g.dimension == 0 {
-        return wrong(g, LANES, at);
+    if kind == QUERY {
+        r.asked = std::num::wrapping_add_usize(g.asked, 1);
+        return r;
     }
     if g.asked != 0 {
         return wrong(g, LATE, at);
     }
-    let mut r = point_line(text, g, at, points, names);
-    r.n = r.named;
+    r.n = std::num::wrapping_add_usize(g.n, 1);
     r
 }
 
-// `query NAME LANE..`
-fn query_line(text: &[u8], g: Game, at: usize, points: &mut [f32], names: &mut [usize]) -> Game {
-    if g.dimension == 0 {
-        return wrong(g, LANES, at);
+// `counter NAME LANE..` and `query NAME LANE..`: the name's place and the lanes, behind all that are there.
+fn point_line(
+    text: &[u8],
+    g: Game,
+    kind: u32,
+    at: usize,
+    points: &mut [f32],
+    names: &mut [usize],
+) -> Game {
+    let name = lines::next_word(text, at);
+    let i = std::num::wrapping_add_usize(g.n, g.asked);
+    let d = g.dimension;
+    let a = cases::area(i, d);
+    if i >= names.len() {
+        return wrong(g, ROOM, at);
     }
-    let mut r = point_line(text, g, at, points, names);
-    r.asked = std::num::wrapping_add_usize(g.asked, 1);
-    r
+    if a > points.len() {
+        return wrong(g, ROOM, at);
+    }
+    if d > points.len() - a {
+        return wrong(g, ROOM, at);
+    }
+    names[i] = name.start;
+    let e = a + d;
+    let read = read_values(text, name.end, &mut points[a..e]);
+    after(text, with_point(g, kind, at), read)
+}
+
+// The kind of a line, by its first word.
+fn kind_of(text: &[u8], w: Word) -> u32 {
+    if lines::is_word(text, w, b"counter") {
+        return COUNTER;
+    }
+    if lines::is_word(text, w, b"query") {
+        return QUERY;
+    }
+    if lines::is_word(text, w, b"lanes") {
+        return NAMED_LANES;
+    }
+    if lines::is_word(text, w, b"teach") {
+        return TEACH;
+    }
+    if lines::is_word(text, w, b"names") {
+        return NAMES;
+    }
+    if lines::is_word(text, w, b"roots") {
+        return ROOTS;
+    }
+    OTHER
 }
 
 // A line that says what there is: lanes, sizes, roots, names.
-fn setting(text: &[u8], g: Game, w: Word, roots: &mut [u32]) -> Game {
-    if lines::is_word(text, w, b"lanes") {
-        return lanes_line(text, g, w.end);
+fn setting(text: &[u8], g: Game, kind: u32, at: usize, roots: &mut [u32]) -> Game {
+    if kind == NAMED_LANES {
+        return lanes_line(text, g, at);
     }
-    if lines::is_word(text, w, b"teach") {
-        return teach_line(text, g, w.end);
+    if kind == TEACH {
+        return teach_line(text, g, at);
     }
-    if lines::is_word(text, w, b"names") {
-        return names_line(text, g, w.end);
+    if kind == NAMES {
+        return names_line(text, g, at);
     }
-    if lines::is_word(text, w, b"roots") {
-        return roots_line(text, g, w.end, roots);
+    roots_line(text, g, at, roots)
+}
+
+// A line of any kind, from behind its first word on.
+fn line_of_kind(
+    text: &[u8],
+    g: Game,
+    kind: u32,
+    at: usize,
+    points: &mut [f32],
+    names: &mut [usize],
+    roots: &mut [u32],
+) -> Game {
+    if kind > QUERY {
+        return setting(text, g, kind, at, roots);
     }
-    wrong(g, UNKNOWN, w.start)
+    if g.dimension == 0 {
+        return wrong(g, LANES, at);
+    }
+    point_line(text, g, kind, at, points, names)
 }
 
 fn line(
@@ -258,13 +308,11 @@ fn line(
     if lines::is_none(w) {
         return g;
     }
-    if lines::is_word(text, w, b"counter") {
-        return counter_line(text, g, w.end, points, names);
+    let kind = kind_of(text, w);
+    if kind == OTHER {
+        return wrong(g, UNKNOWN, w.start);
     }
-    if lines::is_word(text, w, b"query") {
-        return query_line(text, g, w.end, points, names);
-    }
-    setting(text, g, w, roots)
+    line_of_kind(text, g, kind, w.end, points, names, roots)
 }
 
 /// Reads a whole file, up to the first thing that is wrong. A proved loop has to end: it counts down, from more lines than there are bytes.

@@ -1,7 +1,7 @@
 // Names counters: reads a game from stdin, teaches it, looks its queries up, and prints a table for a person and tables for a program.
 use game::Game;
-use params::SsgParams;
 use rules::Answer;
+use rules::Refusal;
 use rules::SearchAnswer;
 
 mod game;
@@ -55,6 +55,17 @@ fn put_results(
     }
 }
 
+// A query's refusal: no counter is named.
+fn put_refusal(table: u32, asked: usize, r: Refusal) {
+    if table == PERSON {
+        tables::put_refused(b"      no name: refused", r);
+    }
+    if table == REFUSALS {
+        let code = refusals::code_of(r);
+        tables::put_row(asked, code.number, code.first, code.second);
+    }
+}
+
 // A query's answer, in one of the tables.
 fn put_answer(
     text: &[u8],
@@ -71,15 +82,7 @@ fn put_answer(
                 put_results(text, names, table, asked, &nodes[..m], bits);
             }
         }
-        SearchAnswer::Refused(r) => {
-            if table == PERSON {
-                tables::put_no_name(r);
-            }
-            if table == REFUSALS {
-                let code = refusals::code_of(r);
-                tables::put_row(asked, code.number, code.first, code.second);
-            }
-        }
+        SearchAnswer::Refused(r) => put_refusal(table, asked, r),
     }
 }
 
@@ -95,6 +98,7 @@ fn ask(
     table: u32,
     asked: usize,
 ) {
+    let params = g.params;
     let mut nodes = [0u32; 64];
     let mut bits = [0u32; 64];
     let mut words = [0u32; 2304];
@@ -104,7 +108,7 @@ fn ask(
         g.n,
         lanes,
         graph,
-        g.index_size,
+        params.index_size,
         roots,
         query,
         g.k,
@@ -207,7 +211,8 @@ fn put_tables(
     ask_all(text, g, names, lanes, graph, roots, queries, RANKS);
     tables::say(b"\nquery,refusal,first,second\n");
     ask_all(text, g, names, lanes, graph, roots, queries, REFUSALS);
-    put_graph(graph, g.n, g.index_size);
+    let params = g.params;
+    put_graph(graph, g.n, params.index_size);
 }
 
 // Teaches the game.
@@ -222,11 +227,7 @@ fn teach(
 ) {
     let mut words = [0u32; 167936];
     let mut floats = [0.0f32; 167936];
-    let params = SsgParams::default()
-        .init_k(g.init_k)
-        .index_size(g.index_size)
-        .neighbor_neighbor_size(g.hops)
-        .threshold(g.threshold);
+    let params = g.params;
     let a = build::build(
         params,
         g.dimension,
@@ -238,11 +239,7 @@ fn teach(
     );
     match a {
         Answer::Done => put_tables(text, g, names, lanes, graph, roots, queries),
-        Answer::Refused(r) => {
-            tables::say(b"the game is refused");
-            refusals::put_refusal(r);
-            tables::say(b"\n");
-        }
+        Answer::Refused(r) => tables::put_refused(b"the game is refused", r),
     }
 }
 
@@ -250,7 +247,8 @@ fn teach(
 fn with_parts(text: &[u8], g: Game, names: &[usize], points: &[f32], roots: &[u32]) {
     let mut graph = [0u32; 20480];
     let cut = cases::least(cases::area(g.n, g.dimension), points.len());
-    let graph_long = cases::least(cases::area(g.n, g.index_size), graph.len());
+    let params = g.params;
+    let graph_long = cases::least(cases::area(g.n, params.index_size), graph.len());
     let roots_long = cases::least(g.roots, roots.len());
     teach(
         text,

@@ -46,12 +46,10 @@ pub fn put_counter(text: &[u8], rank: usize, place: usize) {
     say(b"\n");
 }
 
-/// No counter is named: the refusal's number and places.
-pub fn put_no_name(r: Refusal) {
-    let code = refusals::code_of(r);
-    refusals::put(b"      no name: refusal ", code.number);
-    refusals::put(b" at ", code.first);
-    refusals::put(b" and ", code.second);
+/// That something is refused, with the refusal's number and places.
+pub fn put_refused(what: &[u8], r: Refusal) {
+    say(what);
+    refusals::put_refusal(r);
     say(b"\n");
 }
 
@@ -64,23 +62,36 @@ pub fn put_row(a: usize, b: usize, c: usize, d: usize) {
     say(b"\n");
 }
 
-fn say_fault(fault: u32) {
-    match fault {
-        1 => say(b"a line starts with lanes, teach, names, roots, counter or query"),
-        2 => say(b"a number of at most three places behind the point, or nan, should stand"),
-        3 => say(b"a whole number should stand"),
-        4 => say(b"the line should end"),
-        5 => say(b"1 to 16 lanes are named once, before everything that has lanes"),
-        6 => say(b"counters stand before queries"),
-        _ => say(b"there is no room for more: 320 counters and queries, 64 roots"),
+// The start of a line, counted from 0.
+fn line_start(text: &[u8], line: u32) -> usize {
+    let mut left = line;
+    let mut at: usize = 0;
+    while left > 0 {
+        at = lines::line_after(text, at);
+        left -= 1;
     }
+    at
+}
+
+// A line for each of the faults of `game`, in the order of their numbers.
+fn say_wrong(fault: u32) {
+    let messages = b"nothing is wrong
+a line starts with lanes, teach, names, roots, counter or query
+a number of at most three places behind the point, or nan, should stand
+a whole number should stand
+the line should end
+1 to 16 lanes are named once, before everything that has lanes
+counters stand before queries
+there is no room for more: 320 counters and queries, 64 roots
+";
+    put_words(messages, line_start(messages, fault));
 }
 
 /// What is wrong with a file, and where.
 pub fn put_fault(text: &[u8], g: Game) {
     refusals::put(b"line ", lines::line_of(text, g.place));
     say(b": ");
-    say_fault(g.fault);
+    say_wrong(g.fault);
     say(b", where it says: ");
     put_words(text, g.place);
     say(b"\n");

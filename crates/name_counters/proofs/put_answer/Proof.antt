@@ -17,14 +17,8 @@ put-results-requires c κs = search needs
 enum-known-a-2 : tie.Need-enum-known-a-2
 enum-known-a-2 c = search needs
 
-put-no-name-requires : tie.Need-put-no-name-requires
-put-no-name-requires c κs = search needs
-
-code-of-requires : tie.Need-code-of-requires
-code-of-requires c κs = search needs
-
-put-row-requires : tie.Need-put-row-requires
-put-row-requires c κs = search needs
+put-refusal-requires : tie.Need-put-refusal-requires
+put-refusal-requires c κs = search needs
 
 returns : tie.Need-returns
 returns c = search needs
@@ -35,9 +29,6 @@ returns-2 c = search needs
 returns-3 : tie.Need-returns-3
 returns-3 c = search needs
 
-returns-4 : tie.Need-returns-4
-returns-4 c = search needs
-
 pub put-answer-spec : {M : Type 1} → statement M
 put-answer-spec =
     tie.close
@@ -46,10 +37,7 @@ put-answer-spec =
     slice-aggregate-put-results
     put-results-requires
     enum-known-a-2
-    put-no-name-requires
-    code-of-requires
-    put-row-requires
+    put-refusal-requires
     returns
     returns-2
-    returns-3
-    returns-4)
+    returns-3)

@@ -15,7 +15,7 @@ nothing-requires : tie.Need-nothing-requires Inv-loop μ-loop
 nothing-requires c κs = search needs
 
 loop-holds : tie.Need-loop-holds Inv-loop μ-loop
-loop-holds c = (refl , refl , refl)
+loop-holds c = (refl, refl, refl)
 
 same-length : tie.Need-same-length Inv-loop μ-loop
 same-length c = search needs

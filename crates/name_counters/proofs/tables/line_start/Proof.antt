@@ -1,0 +1,33 @@
+-- `name_counters::tables::line_start` is safe and ends. Assumes nothing.
+use borrow.Author.Needs.{needs}
+use Rattle.name_counters.proofs.tables.line_start.Statement.{statement}
+use Rattle.name_counters.proofs.tables.line_start.Tie as tie
+
+abbrev Inv-loop : tie.InvT-loop
+Inv-loop text line left₀ at₀ left at = Unit {0}
+
+abbrev μ-loop : tie.MeasureT-loop
+μ-loop text line left₀ at₀ left at = left
+
+loop-holds : tie.Need-loop-holds Inv-loop μ-loop
+loop-holds c = tt
+
+line-after-requires : tie.Need-line-after-requires Inv-loop μ-loop
+line-after-requires c κs = search needs
+
+sub-left : tie.Need-sub-left Inv-loop μ-loop
+sub-left c = search needs
+
+loop-less : tie.Need-loop-less Inv-loop μ-loop
+loop-less c = search needs
+
+loop-again : tie.Need-loop-again Inv-loop μ-loop
+loop-again c = tt
+
+returns : tie.Need-returns Inv-loop μ-loop
+returns c = search needs
+
+pub line-start-spec : {M : Type 1} → statement M
+line-start-spec =
+    tie.close
+    (tie.spec Inv-loop μ-loop loop-holds line-after-requires sub-left loop-less loop-again returns)
