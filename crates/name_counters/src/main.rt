@@ -1,4 +1,6 @@
 // Names counters: reads a game from stdin, teaches it, looks its queries up, and prints a table for a person and tables for a program.
+ghost use mathlib.Core.Path.{_≡_};
+ghost use lib.ListN.{length};
 use game::Game;
 use rules::Answer;
 use rules::Refusal;
@@ -14,6 +16,45 @@ const PERSON: u32 = 0;
 const RANKS: u32 = 1;
 
 const REFUSALS: u32 = 2;
+
+// Places for the graph of the largest game that is read, 320 counters, and for its build.
+fn graph_room() -> [u32; 20480]
+    ensures { λ r. ⌜ 20480 ≡ length r ⌝ }
+{
+    [0; 20480]
+}
+
+fn words_room() -> [u32; 167936]
+    ensures { λ r. ⌜ 167936 ≡ length r ⌝ }
+{
+    [0; 167936]
+}
+
+fn floats_room() -> [f32; 167936]
+    ensures { λ r. ⌜ 167936 ≡ length r ⌝ }
+{
+    [0.0; 167936]
+}
+
+// Places for the lanes of 320 counters and queries.
+fn points_room() -> [f32; 5120]
+    ensures { λ r. ⌜ 5120 ≡ length r ⌝ }
+{
+    [0.0; 5120]
+}
+
+// Places for a search.
+fn search_words() -> [u32; 2304]
+    ensures { λ r. ⌜ 2304 ≡ length r ⌝ }
+{
+    [0; 2304]
+}
+
+fn search_floats() -> [f32; 2304]
+    ensures { λ r. ⌜ 2304 ≡ length r ⌝ }
+{
+    [0.0; 2304]
+}
 
 // One result of a query.
 fn put_result(
@@ -101,8 +142,8 @@ fn ask(
     let params = g.params;
     let mut nodes = [0u32; 64];
     let mut bits = [0u32; 64];
-    let mut words = [0u32; 2304];
-    let mut floats = [0.0f32; 2304];
+    let mut words = search_words();
+    let mut floats = search_floats();
     let a = search::search(
         g.dimension,
         g.n,
@@ -225,8 +266,8 @@ fn teach(
     roots: &[u32],
     queries: &[f32],
 ) {
-    let mut words = [0u32; 167936];
-    let mut floats = [0.0f32; 167936];
+    let mut words = words_room();
+    let mut floats = floats_room();
     let params = g.params;
     let a = build::build(
         params,
@@ -245,7 +286,7 @@ fn teach(
 
 // The parts of what was read: the counters' lanes, the queries' behind them, and the roots.
 fn with_parts(text: &[u8], g: Game, names: &[usize], points: &[f32], roots: &[u32]) {
-    let mut graph = [0u32; 20480];
+    let mut graph = graph_room();
     let cut = cases::least(cases::area(g.n, g.dimension), points.len());
     let params = g.params;
     let graph_long = cases::least(cases::area(g.n, params.index_size), graph.len());
@@ -262,7 +303,7 @@ fn with_parts(text: &[u8], g: Game, names: &[usize], points: &[f32], roots: &[u3
 }
 
 fn name_counters(text: &[u8]) {
-    let mut points = [0.0f32; 5120];
+    let mut points = points_room();
     let mut names = [0usize; 320];
     let mut roots = [0u32; 64];
     let g = game::read(text, &mut points, &mut names, &mut roots);

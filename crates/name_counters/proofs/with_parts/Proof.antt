@@ -5,6 +5,9 @@ use borrow.Author.Needs.{needs}
 use Rattle.name_counters.proofs.with_parts.Statement.{statement}
 use Rattle.name_counters.proofs.with_parts.Tie as tie
 
+graph-room-requires : tie.Need-graph-room-requires
+graph-room-requires c κs = search needs
+
 area-requires : tie.Need-area-requires
 area-requires c κs = search needs
 
@@ -54,6 +57,7 @@ pub with-parts-spec : {M : Type 1} → statement M
 with-parts-spec =
     tie.close
     (tie.spec
+    graph-room-requires
     area-requires
     least-requires
     area-requires-2
