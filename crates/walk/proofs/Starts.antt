@@ -1,87 +1,20 @@
--- The steps of the walk's start: roots worked out, and the first of them entered. Assumes nothing.
+-- The first roots found enter the best set and the queue. Assumes nothing.
 use mathlib.Core.Path.{_≡_, refl, sym, ap, _∙_}
 use mathlib.Core.List.{List, [], _∷_, _++_}
 use Prim.Native.Nat.{ℕ, _+_, _-_, _≤_, _<_}
 use native.Mathlib.Numerals.{add-one}
 use native.Mathlib.Omega.{arith}
-use lib.ListN.{length, take, drop, getD, set, drop-of-length-le, length-set}
-use lib.Seq.{drop-cons, take-suc, getD-take, getD-drop, getD-set-same, take-set-le}
+use lib.ListN.{length, take, drop, getD, set, length-set}
+use lib.Seq.{take-suc, getD-take, getD-drop, getD-set-same, take-set-le}
 use lib.Ieee.{Float, nan}
-use Rattle.rules.specs.declared.Distance.{Distance}
-use Rattle.rules.specs.declared.NodeId.{NodeId}
 use Rattle.rules.specs.declared.Neighbor.{Neighbor}
 use Rattle.rules.specs.Lists.{neighbor, entries}
-use Rattle.rules.specs.Search.{Going, andThen, worksOut, rootsFound}
 use Rattle.lists.proofs.Slices.{entries-suc, entries-same, nodesOf-entries}
-use Rattle.expand.specs.declared.Counted.{Counted}
-use Rattle.expand.specs.declared.Counted.the-variants as counted
 use Rattle.buffers.specs.Area.{area}
 use Rattle.expand.specs.Areas.{bestAt, foundAt, queueIn, bestIn, foundIn, Room, FoundKept}
-use Rattle.expand.specs.Steps.{entriesAfter, exactly, WorkedOut}
 use Rattle.buffers.proofs.Places.{length-area, set-area, set-low, set-high}
 use Rattle.expand.proofs.Areas.{queue-grown, queue-stored, found-kept, found-kept-on}
-use Rattle.walk.specs.Walks.{RootsFound, Entered}
-
--- ---- the roots are worked out one by one
-
-pub record Rooting (apart : ℕ → Distance) (n : ℕ) (roots us₀ : List ℕ) (fs₀ : List Float) (us : List ℕ) (fs : List Float) (i : ℕ) : Type 0 where
-  pub left : rootsFound apart (drop i roots) (foundIn n us fs i) ≡ rootsFound apart roots []
-  pub at : i ≤ length roots
-  pub words : length us ≡ length us₀
-  pub floats : length fs ≡ length fs₀
-
-pub rooting-none : (apart : ℕ → Distance) (n : ℕ) (roots us : List ℕ) (fs : List Float) → Rooting apart n roots us fs us fs 0
-unfolding entries
-rooting-none apart n roots us fs = record { left = refl; at = omega arith; words = refl; floats = refl }
-
-module _ {apart : ℕ → Distance} {n : ℕ} {roots us₀ : List ℕ} {fs₀ : List Float} {us : List ℕ} {fs : List Float} {i : ℕ} (inv : Rooting apart n roots us₀ fs₀ us fs i) where
-  next-root : i < length roots → rootsFound apart (drop i roots) (foundIn n us fs i)
-      ≡ andThen (worksOut apart (getD roots i 0) (foundIn n us fs i) (apart (getD roots i 0))) (rootsFound apart (drop (i + 1) roots))
-  unfolding rootsFound
-  next-root h = rw (add-one, drop-cons roots i 0)
-
-  pub rooting-unfit : {us' : List ℕ} {fs' : List Float} {r : Counted} {v : NodeId} → i < length roots → r ≡ counted.Unfit v
-      → WorkedOut apart n (getD roots i 0) i us fs us' fs' r → RootsFound apart n roots us₀ fs₀ us' fs' r
-  unfolding entriesAfter exactly andThen
-  rooting-unfit {us'} {fs'} {r} {v} h e w =
-      let p : WorkedOut apart n (getD roots i 0) i us fs us' fs' (counted.Unfit v) = rw e at w in
-      rw e
-      (record {
-        entries = ap (λ (g : Going (List Neighbor)). andThen g (rootsFound apart (drop (i + 1) roots))) (p .entries) ∙ sym (next-root h) ∙ inv .left;
-        count = tt;
-        words = p .kept .words ∙ inv .words;
-        floats = p .kept .floats ∙ inv .floats;
-      })
-
-  pub rooting-more : {us' : List ℕ} {fs' : List Float} {r : Counted} {more : ℕ} → i < length roots → r ≡ counted.Count more
-      → WorkedOut apart n (getD roots i 0) i us fs us' fs' r → (more ≡ i + 1) × Rooting apart n roots us₀ fs₀ us' fs' more
-  unfolding entriesAfter exactly andThen
-  rooting-more {us'} {fs'} {r} {more} h e w =
-      let p : WorkedOut apart n (getD roots i 0) i us fs us' fs' (counted.Count more) = rw e at w in
-      let c : more ≡ i + 1 = p .count in (
-        c,
-        record {
-          left =
-              ap (λ (k : ℕ). rootsFound apart (drop k roots) (foundIn n us' fs' more)) c
-              ∙ ap (λ (g : Going (List Neighbor)). andThen g (rootsFound apart (drop (i + 1) roots))) (p .entries)
-              ∙ sym (next-root h)
-              ∙ inv .left;
-          at = omega arith;
-          words = p .kept .words ∙ inv .words;
-          floats = p .kept .floats ∙ inv .floats;
-        },
-      )
-
-  pub rooting-end : length roots ≤ i → RootsFound apart n roots us₀ fs₀ us fs (counted.Count i)
-  unfolding entriesAfter exactly rootsFound
-  rooting-end h =
-      let at = inv .at in
-      record {
-        entries = sym (ap (λ (l : List ℕ). rootsFound apart l (foundIn n us fs i)) (drop-of-length-le roots {i = i} h)) ∙ inv .left;
-        count = omega arith;
-        words = inv .words;
-        floats = inv .floats;
-      }
+use Rattle.walk.specs.Walks.{Entered}
 
 -- ---- the first found enter the best set and the queue
 

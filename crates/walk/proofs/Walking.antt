@@ -4,7 +4,7 @@ use mathlib.Core.List.{List, [], _∷_, _++_}
 use Prim.Native.Nat.{ℕ, zero, suc, _+_, _-_, _≤_, _<_, min}
 use native.Mathlib.Omega.{arith}
 use borrow.Author.Tests.{lt-ltb, le-ltb}
-use lib.ListN.{length, take, drop, replicate, length-replicate, length-append, length-drop}
+use lib.ListN.{length, take, drop, replicate, length-take, length-replicate, length-append, length-drop}
 use lib.Seq.{length-take-le, take-at, drop-at, drop-drop}
 use lib.Ieee.{Float}
 use Rattle.rules.specs.declared.Distance.{Distance}
@@ -14,20 +14,18 @@ use Rattle.rules.specs.Loops.{through}
 use Rattle.rules.specs.Lists.{entries, nodesOf}
 use Rattle.rules.specs.Rows.{graphRow}
 use Rattle.rules.specs.Search.{Walk, Going, on, andThen, mark, rootsFound, started, expand, walk, searchOf}
-use Rattle.lists.proofs.Laws.{take-min}
+use Rattle.lists.proofs.Laws.{take-min, holdable-take, ascending-take}
 use Rattle.lists.proofs.Slices.{take-entries, length-entries}
 use Rattle.expand.specs.declared.Counted.{Counted}
 use Rattle.expand.specs.declared.Counted.the-variants as counted
 use Rattle.buffers.specs.Area.{area}
-use Rattle.expand.specs.Areas.{foundAt, seenIn, queueIn, bestIn, foundIn, Room}
-use Rattle.expand.specs.Steps.{entriesAfter, exactly}
-use Rattle.expand.specs.Queue.{ones, AllBelow, QueueSound, walkIn, walkAfter, soundAfter, Expanded}
+use Rattle.lists.specs.Ascending.{AllHoldable, Ascending}
+use Rattle.expand.specs.Areas.{foundAt, seenIn, queueIn, bestIn, foundIn, Room, BestSound}
+use Rattle.expand.specs.Queue.{ones, AllBelow, QueueSound, walkIn, walkAfter, soundAfter, bestAfter, Expanded}
 use Rattle.buffers.proofs.Places.{length-area}
 use Rattle.expand.proofs.Sound.{ones-most, Whenever}
-use Rattle.walk.specs.Walks.{Roots, RootsFound, Marked, Entered, startsIn, StartedIn, endsIn, WalkedIn}
+use Rattle.walk.specs.Walks.{Roots, rootsIn, RootsFound, Marked, Entered, startsIn, StartedIn, endsIn, WalkedIn}
 use Rattle.walk.proofs.Marks.{marks-long, marks-count, found-below, all-below}
-
--- ---- the flags are cleared and the roots marked, in the part of the words that holds the flags
 
 -- ---- the flags are cleared and the roots marked, in the front of the words
 
@@ -75,69 +73,72 @@ cut-below n (suc k) [] b = tt
 cut-below n (suc k) (e ∷ es) b = (b .0, cut-below n k es (b .1))
 
 module _ {apart : ℕ → Distance} {n k : ℕ} {roots us us₁ us₂ us₃ : List ℕ} {fs fs₁ fs₃ : List Float} {count m : ℕ} (fine : Roots n roots) where
-  pub started-in : RootsFound apart n roots us fs us₁ fs₁ (counted.Count count) → Marked n roots us₁ us₂ → m ≡ min k count → Entered n m us₂ fs₁ us₃ fs₃ → Room n us fs
+  pub started-in : RootsFound apart n k roots us fs us₁ fs₁ (counted.Count count) → Marked n roots us₁ us₂ → m ≡ min k count → Entered n m us₂ fs₁ us₃ fs₃ → Room n us fs
       → StartedIn apart n k roots us fs us₃ fs₃ (counted.Count m)
-  unfolding entriesAfter exactly startsIn started Whenever
+  unfolding rootsIn startsIn started Whenever
   started-in r d least e room =
+      let s = r .found in
       let cw = r .words in
       let cf = r .floats in
       let w = room .words in
       let x = room .floats in
-      let all : count ≡ length roots = r .count in
       let few = fine .few in
+      let most = s .6 in
       let ul = length-area (foundAt n) 64 us₁ (omega arith) in
       let fl = length-area (foundAt n) 64 fs₁ (omega arith) in
-      let sorted = foundIn n us₁ fs₁ count in
-      let long : length sorted ≡ count = length-entries count (area (foundAt n) 64 us₁) (area (foundAt n) 64 fs₁) (omega arith) (omega arith) in
-      let same : foundIn n us₂ fs₁ m ≡ take k sorted =
+      let sorted = s .0 in
+      let found = foundIn n us₁ fs₁ count in
+      let long : length found ≡ count = length-entries count (area (foundAt n) 64 us₁) (area (foundAt n) 64 fs₁) (omega arith) (omega arith) in
+      let cut : min k count ≡ min k (length roots) =
+      ap (min k) (sym long) ∙ sym (length-take k found) ∙ ap length (sym (s .3)) ∙ length-take k sorted ∙ ap (min k) (s .2) in
+      let first : foundIn n us₂ fs₁ m ≡ take k found =
       ap (λ (l : List ℕ). entries m l (area (foundAt n) 64 fs₁)) (d .nodes)
       ∙ sym (take-entries m count (area (foundAt n) 64 us₁) (area (foundAt n) 64 fs₁) (omega arith))
-      ∙ take-min m k sorted (least ∙ ap (min k) (sym long)) in
+      ∙ take-min m k found (least ∙ ap (min k) (sym long)) in
+      let same : foundIn n us₂ fs₁ m ≡ take k sorted = first ∙ sym (s .3) in
       let queue : take m (queueIn n us₃) ≡ nodesOf (take k sorted) = e .queue ∙ ap nodesOf same in
       let seen : seenIn n us₃ ≡ through mark roots (replicate n 0) = e .kept .seen ∙ d .seen in
       let flags : ones (seenIn n us₃) ≡ length roots = ap ones seen ∙ marks-count n roots fine in
       let below : AllBelow n (nodesOf sorted) =
-      subst (Whenever (λ (es : List Neighbor). AllBelow n (nodesOf es))) (sym (r .entries)) (found-below apart n roots [] (all-below n roots (fine .below)) none-below) in
+      subst (Whenever (λ (es : List Neighbor). AllBelow n (nodesOf es))) (s .1) (found-below apart n roots [] (all-below n roots (fine .below)) (nothing-below n)) in
       record {
         starts = (
           sorted,
-          sym (r .entries),
+          s .1,
           ap (λ (l : List ℕ). record { seen = l; best = bestIn n us₃ fs₃ m; queue = take m (queueIn n us₃); takings = 0; worked = length roots }) seen
               ∙ ap (λ (b : List Neighbor). record { seen = through mark roots (replicate n 0); best = b; queue = take m (queueIn n us₃); takings = 0; worked = length roots })
               (e .best ∙ same)
               ∙ ap (λ (q : List ℕ). record { seen = through mark roots (replicate n 0); best = take k sorted; queue = q; takings = 0; worked = length roots }) queue,
-          record { few = omega arith; below = subst (AllBelow n) (sym queue) (below-nodes k sorted below) },
-          least ∙ ap (min k) all,
+          record { few = omega arith; below = subst (AllBelow n) (sym queue) (cut-below n k sorted below) },
+          least ∙ cut,
+          record {
+            held = subst AllHoldable (sym (e .best ∙ first)) (holdable-take k found (s .4));
+            rising = subst Ascending (sym (e .best ∙ first)) (ascending-take k found (s .5));
+          },
         );
         words = e .kept .words ∙ d .words ∙ r .words;
         floats = e .kept .floats ∙ r .floats;
       }
-    where
-      none-below : AllBelow n (nodesOf [])
-      none-below = nothing-below n
 
-      below-nodes : (k : ℕ) (es : List Neighbor) → AllBelow n (nodesOf es) → AllBelow n (nodesOf (take k es))
-      below-nodes k es b = cut-below n k es b
-
--- every root was worked out
-pub counted-all : {apart : ℕ → Distance} {n : ℕ} {roots us us₁ : List ℕ} {fs fs₁ : List Float} {r : Counted} {count : ℕ} → r ≡ counted.Count count → RootsFound apart n roots us fs us₁ fs₁ r → count ≡ length roots
-unfolding exactly
-counted-all {apart} {n} {roots} {us} {us₁} {fs} {fs₁} e p =
-    let q : RootsFound apart n roots us fs us₁ fs₁ (counted.Count _) = rw e at p in q .count
+-- no more are found than there are roots
+pub counted-few : {apart : ℕ → Distance} {n k : ℕ} {roots us us₁ : List ℕ} {fs fs₁ : List Float} {r : Counted} {count : ℕ} → r ≡ counted.Count count → RootsFound apart n k roots us fs us₁ fs₁ r → count ≤ length roots
+unfolding rootsIn
+counted-few {apart} {n} {k} {roots} {us} {us₁} {fs} {fs₁} e p =
+    let q : RootsFound apart n k roots us fs us₁ fs₁ (counted.Count _) = rw e at p in q .found .6
 
 -- what the walk goes on from
 pub started-count : {apart : ℕ → Distance} {n k : ℕ} {roots us us₁ : List ℕ} {fs fs₁ : List Float} {r : Counted} {m : ℕ} → r ≡ counted.Count m → StartedIn apart n k roots us fs us₁ fs₁ r
-    → QueueSound n us₁ m × (m ≡ min k (length roots))
+    → QueueSound n us₁ m × (m ≡ min k (length roots)) × BestSound n us₁ fs₁ m
 unfolding startsIn
 started-count {apart} {n} {k} {roots} {us} {us₁} {fs} {fs₁} e p =
-    let q : StartedIn apart n k roots us fs us₁ fs₁ (counted.Count _) = rw e at p in (q .starts .3, q .starts .4)
+    let q : StartedIn apart n k roots us fs us₁ fs₁ (counted.Count _) = rw e at p in (q .starts .3, q .starts .4, q .starts .5)
 
 pub started-unfit : {apart : ℕ → Distance} {n k : ℕ} {roots us us₁ : List ℕ} {fs fs₁ : List Float} {r : Counted} {v : NodeId} → r ≡ counted.Unfit v
-    → RootsFound apart n roots us fs us₁ fs₁ r → StartedIn apart n k roots us fs us₁ fs₁ r
-unfolding entriesAfter startsIn
+    → RootsFound apart n k roots us fs us₁ fs₁ r → StartedIn apart n k roots us fs us₁ fs₁ r
+unfolding rootsIn startsIn
 started-unfit {apart} {n} {k} {roots} {us} {us₁} {fs} {fs₁} {r} {v} e p =
-    let q : RootsFound apart n roots us fs us₁ fs₁ (counted.Unfit v) = rw e at p in
-    rw e (record { starts = sym (q .entries); words = q .words; floats = q .floats })
+    let q : RootsFound apart n k roots us fs us₁ fs₁ (counted.Unfit v) = rw e at p in
+    rw e (record { starts = q .found; words = q .words; floats = q .floats })
 
 -- ---- the whole walk
 
@@ -154,16 +155,18 @@ walk-ended apart rows (suc limit) s h = rw (le-ltb (s .takings) (length (s .queu
 pub record Walking (apart : ℕ → Distance) (rows : ℕ → List ℕ) (n m : ℕ) (us₀ : List ℕ) (fs₀ : List Float) (us : List ℕ) (fs : List Float) (takings tail : ℕ) : Type 0 where
   pub left : (w₀ : ℕ) → (w : ℕ) × (walk apart rows (n - takings) (walkIn n us fs m tail takings w) ≡ walk apart rows n (walkIn n us₀ fs₀ m m 0 w₀))
   pub sound : QueueSound n us tail
+  pub best : BestSound n us fs m
   pub at : takings ≤ n
   pub words : length us ≡ length us₀
   pub floats : length fs ≡ length fs₀
 
-pub walking-none : (apart : ℕ → Distance) (rows : ℕ → List ℕ) (n m : ℕ) (us : List ℕ) (fs : List Float) → QueueSound n us m → Walking apart rows n m us fs us fs 0 m
-walking-none apart rows n m us fs sound =
+pub walking-none : (apart : ℕ → Distance) (rows : ℕ → List ℕ) (n m : ℕ) (us : List ℕ) (fs : List Float) → QueueSound n us m → BestSound n us fs m → Walking apart rows n m us fs us fs 0 m
+walking-none apart rows n m us fs sound best =
     let e : n - 0 ≡ n = omega arith in
     record {
       left = λ (w₀ : ℕ). (w₀, ap (λ (k : ℕ). walk apart rows k (walkIn n us fs m m 0 w₀)) e);
       sound = sound;
+      best = best;
       at = omega arith;
       words = refl;
       floats = refl;
@@ -199,7 +202,7 @@ module _ {apart : ℕ → Distance} {n : ℕ} (graph : List ℕ) (width : ℕ) {
 
   pub walking-more : {us' : List ℕ} {fs' : List Float} {r : Counted} {end : ℕ} → takings < tail → r ≡ counted.Count end
       → Expanded apart n graph width m takings tail us fs us' fs' r → Walking apart (graphRow n width graph) n m us₀ fs₀ us' fs' (takings + 1) end
-  unfolding walkAfter soundAfter andThen
+  unfolding walkAfter soundAfter bestAfter andThen
   walking-more {us'} {fs'} {r} {end} h e p =
       let q : Expanded apart n graph width m takings tail us fs us' fs' (counted.Count end) = rw e at p in
       let short = tail-short in
@@ -212,6 +215,7 @@ module _ {apart : ℕ → Distance} {n : ℕ} (graph : List ℕ) (width : ℕ) {
               ap (λ (g : Going Walk). andThen g (walk apart (graphRow n width graph) (n - (takings + 1)))) (now .1) ∙ sym (next h (was .0)) ∙ was .1,
             );
         sound = q .sound;
+        best = q .best;
         at = omega arith;
         words = q .words ∙ inv .words;
         floats = q .floats ∙ inv .floats;

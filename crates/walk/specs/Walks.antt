@@ -1,20 +1,22 @@
 -- What the walk's start and the whole walk leave in scratch. Assumes nothing.
 use mathlib.Core.Path.{_≡_}
-use mathlib.Core.Bool.{false}
+use mathlib.Core.Bool.{false, cond}
 use mathlib.Core.List.{List, []}
-use Prim.Native.Nat.{ℕ, _≤_, _<_, min}
+use Prim.Native.Nat.{ℕ, _+_, _-_, _≤_, _<_, min}
+use lib.Dec.{ltb}
 use lib.ListN.{length, take, getD, replicate}
-use lib.Ieee.{Float}
+use lib.Ieee.{Float, nan}
 use Rattle.rules.specs.declared.Distance.{Distance}
 use Rattle.rules.specs.declared.Neighbor.{Neighbor}
 use Rattle.rules.specs.Loops.{through, has}
 use Rattle.rules.specs.Lists.{nodesOf}
+use Rattle.rules.specs.Rows.{emptyDistance}
 use Rattle.rules.specs.Search.{Walk, Going, on, unfitAt, mark, rootsFound, started}
 use Rattle.expand.specs.declared.Counted.{Counted}
 use Rattle.expand.specs.declared.Counted.the-variants.{Count, Unfit}
 use Rattle.buffers.specs.Area.{area}
-use Rattle.expand.specs.Areas.{foundAt, seenIn, queueIn, bestIn, foundIn, FoundKept}
-use Rattle.expand.specs.Steps.{entriesAfter, exactly}
+use Rattle.lists.specs.Ascending.{AllHoldable, Ascending}
+use Rattle.expand.specs.Areas.{foundAt, seenIn, queueIn, bestIn, foundIn, BestSound, FoundKept}
 use Rattle.expand.specs.Queue.{QueueSound, walkIn}
 
 -- roots that row 7 passes
@@ -24,9 +26,19 @@ pub record Roots (n : ℕ) (roots : List ℕ) : Type 0 where
   pub below : (i : ℕ) → i < length roots → getD roots i 0 < n
   pub different : (i : ℕ) → i < length roots → has (getD roots i 0) (take i roots) ≡ false
 
-pub record RootsFound (apart : ℕ → Distance) (n : ℕ) (roots us : List ℕ) (fs : List Float) (us' : List ℕ) (fs' : List Float) (r : Counted) : Type 0 where
-  pub entries : entriesAfter n us' fs' r ≡ rootsFound apart roots []
-  pub count : exactly (length roots) r
+-- the distance beyond which no root enters
+unfoldable pub bound : ℕ → List Float → ℕ → ℕ → Float
+bound n fs len k = cond (ltb len k) emptyDistance (getD fs (n + n + 64 + k - 1) nan)
+
+-- the first k found are the first k of all
+unfoldable pub rootsIn : ℕ → ℕ → List ℕ → Going (List Neighbor) → List ℕ → List Float → Counted → Type 0
+rootsIn n k roots goal us fs (Count len) =
+    (sorted : List Neighbor) × (goal ≡ on sorted) × (length sorted ≡ length roots) × (take k sorted ≡ take k (foundIn n us fs len)) × AllHoldable (foundIn n us fs len)
+    × Ascending (foundIn n us fs len) × (len ≤ length roots)
+rootsIn n k roots goal us fs (Unfit v) = goal ≡ unfitAt (v .0)
+
+pub record RootsFound (apart : ℕ → Distance) (n k : ℕ) (roots us : List ℕ) (fs : List Float) (us' : List ℕ) (fs' : List Float) (r : Counted) : Type 0 where
+  pub found : rootsIn n k roots (rootsFound apart roots []) us' fs' r
   pub words : length us' ≡ length us
   pub floats : length fs' ≡ length fs
 
@@ -45,6 +57,7 @@ pub record Entered (n m : ℕ) (us : List ℕ) (fs : List Float) (us' : List ℕ
 unfoldable pub startsIn : ℕ → ℕ → List ℕ → Going (List Neighbor) → List ℕ → List Float → Counted → Type 0
 startsIn n k roots goal us fs (Count m) =
     (sorted : List Neighbor) × (goal ≡ on sorted) × (walkIn n us fs m m 0 (length roots) ≡ started n k roots sorted) × QueueSound n us m × (m ≡ min k (length roots))
+    × BestSound n us fs m
 startsIn n k roots goal us fs (Unfit v) = goal ≡ unfitAt (v .0)
 
 pub record StartedIn (apart : ℕ → Distance) (n k : ℕ) (roots us : List ℕ) (fs : List Float) (us' : List ℕ) (fs' : List Float) (r : Counted) : Type 0 where

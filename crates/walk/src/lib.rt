@@ -6,36 +6,63 @@ ghost use Rattle.rules.specs.Loops.{through};
 ghost use Rattle.rules.specs.Distance.{queryApart};
 ghost use Rattle.rules.specs.Rows.{graphRow};
 ghost use Rattle.rules.specs.Search.{mark, walk, searchOf};
-ghost use Rattle.expand.specs.Areas.{Room};
+ghost use Rattle.expand.specs.Areas.{Room, BestSound};
 ghost use Rattle.expand.specs.Steps.{Lanes};
 ghost use Rattle.expand.specs.Queue.{Rows, QueueSound, walkIn};
-ghost use Rattle.walk.specs.Walks.{Roots, RootsFound, Marked, Entered, StartedIn, WalkedIn};
+ghost use Rattle.walk.specs.Walks.{Roots, bound, RootsFound, Marked, Entered, StartedIn, WalkedIn};
 use expand::Counted;
 use rules::NodeId;
 
-/// Works the roots out in the given order, sorted among the entries found.
+/// The distance beyond which no root enters: that of the k-th found so far, and the mark of an empty slot where there are fewer.
+fn bound(n: usize, floats: &[f32], len: usize, k: usize) -> f32
+    requires { ⌜ (n ≤ 4096) × (n + n + 128 ≤ length (now floats)) × (1 ≤ k) × (len ≤ 64) ⌝ }
+    ensures { λ r. ⌜ r ≡ bound n (now (floats .entry)) len k ⌝ }
+{
+    if len < k {
+        return 3.4028235e38;
+    }
+    let at = n + n + 64 + k - 1;
+    floats[at]
+}
+
+/// Works the roots out in the given order, sorted among the entries found; those beyond the k-th of them are passed over.
 fn roots_found(
     lanes: &[f32],
     dimension: usize,
     n: usize,
     query: &[f32],
     roots: &[u32],
+    k: usize,
     words: &mut [u32],
     floats: &mut [f32],
 ) -> Counted
     requires { ⌜ Lanes (now lanes) dimension n (now query) ⌝ }
     requires { ⌜ Room n (now words) (now floats) ⌝ }
     requires { ⌜ Roots n (now roots) ⌝ }
-    ensures { λ r. ⌜ RootsFound (queryApart (now (lanes .entry)) dimension (now (query .entry))) n (now (roots .entry)) (now (words .entry)) (now (floats .entry)) (now (words .exit)) (now (floats .exit)) r ⌝ }
+    requires { ⌜ 1 ≤ k ⌝ }
+    ensures { λ r. ⌜ RootsFound (queryApart (now (lanes .entry)) dimension (now (query .entry))) n k (now (roots .entry)) (now (words .entry)) (now (floats .entry)) (now (words .exit)) (now (floats .exit)) r ⌝ }
 {
     let mut len: usize = 0;
-    while len < roots.len() {
-        let v = roots[len];
-        let r = expand::work_out(lanes, dimension, n, query, words, floats, len, NodeId(v));
+    let mut i: usize = 0;
+    while i < roots.len() {
+        let v = roots[i];
+        let far = bound(n, floats, len, k);
+        let r = expand::work_out(
+            lanes,
+            dimension,
+            n,
+            query,
+            words,
+            floats,
+            len,
+            far,
+            NodeId(v),
+        );
         let Counted::Count(more) = r else {
             return r;
         };
         len = more;
+        i += 1;
     }
     Counted::Count(len)
 }
@@ -96,9 +123,10 @@ fn start(
     requires { ⌜ Lanes (now lanes) dimension n (now query) ⌝ }
     requires { ⌜ Room n (now words) (now floats) ⌝ }
     requires { ⌜ Roots n (now roots) ⌝ }
+    requires { ⌜ 1 ≤ k ⌝ }
     ensures { λ r. ⌜ StartedIn (queryApart (now (lanes .entry)) dimension (now (query .entry))) n k (now (roots .entry)) (now (words .entry)) (now (floats .entry)) (now (words .exit)) (now (floats .exit)) r ⌝ }
 {
-    let r = roots_found(lanes, dimension, n, query, roots, words, floats);
+    let r = roots_found(lanes, dimension, n, query, roots, k, words, floats);
     let Counted::Count(count) = r else {
         return r;
     };
@@ -124,6 +152,7 @@ fn go_on(
     requires { ⌜ Rows n (now graph) «index_size» ⌝ }
     requires { ⌜ Room n (now words) (now floats) ⌝ }
     requires { ⌜ QueueSound n (now words) m ⌝ }
+    requires { ⌜ BestSound n (now words) (now floats) m ⌝ }
     requires { ⌜ (1 ≤ m) × (m ≤ 64) ⌝ }
     ensures { λ r. ⌜ ((worked : ℕ) → WalkedIn (walk (queryApart (now (lanes .entry)) dimension (now (query .entry))) (graphRow n «index_size» (now (graph .entry))) n (walkIn n (now (words .entry)) (now (floats .entry)) m m 0 worked)) n m (now (words .entry)) (now (floats .entry)) (now (words .exit)) (now (floats .exit)) r) ⌝ }
 {

@@ -19,7 +19,7 @@ abbrev μ-loop : tie.MeasureT-loop
     n - takings
 
 loop-holds : tie.Need-loop-holds Inv-loop μ-loop
-loop-holds c = walking-none _ _ _ _ _ _ (c .before .before .before .before .before .pre .1 .1 .1 .0)
+loop-holds c = walking-none _ _ _ _ _ _ (c .before .before .before .before .before .pre .1 .1 .1 .0) (c .before .before .before .before .before .pre .1 .1 .1 .1 .0)
 
 expand-requires : tie.Need-expand-requires Inv-loop μ-loop
 expand-requires c κs =
@@ -27,7 +27,7 @@ expand-requires c κs =
     let start = at .before .before .before .before .before .before in
     let inv = at .loop .inv in
     let p = start .pre in
-    (p .0, (p .1 .0, (room-kept (p .1 .1 .0) (inv .words) (inv .floats), (inv .sound, (p .1 .1 .1 .1 .0, p .1 .1 .1 .1 .1, search needs)))))
+    (p .0, (p .1 .0, (room-kept (p .1 .1 .0) (inv .words) (inv .floats), (inv .sound, (inv .best, (p .1 .1 .1 .1 .1 .0, p .1 .1 .1 .1 .1 .1, search needs))))))
 
 enum-known-r : tie.Need-enum-known-r Inv-loop μ-loop
 enum-known-r c = search needs

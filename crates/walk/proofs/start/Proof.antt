@@ -4,13 +4,13 @@ use Prim.Native.Nat.{_-_}
 use native.Mathlib.Omega.{arith}
 use Rattle.expand.proofs.Areas.{room-kept}
 use Rattle.walk.proofs.Marks.{roots-fit}
-use Rattle.walk.proofs.Walking.{counted-all, started-in, started-unfit}
+use Rattle.walk.proofs.Walking.{counted-few, started-in, started-unfit}
 use borrow.Author.Needs.{needs}
 use Rattle.walk.proofs.start.Statement.{statement}
 use Rattle.walk.proofs.start.Tie as tie
 
 roots-found-requires : tie.Need-roots-found-requires
-roots-found-requires c κs = let start = c .before .before .before .before .before .before .before in (start .pre .0, (start .pre .1 .0, start .pre .1 .1))
+roots-found-requires c κs = let start = c .before .before .before .before .before .before .before in (start .pre .0, (start .pre .1 .0, (start .pre .1 .1 .0, start .pre .1 .1 .1)))
 
 enum-known-r : tie.Need-enum-known-r
 enum-known-r c = search needs
@@ -32,7 +32,7 @@ mark-all-requires c κs =
     let start = c .before .before .before .before .before .before .before .before .before .before .before .before .before .before .before .before in
     let room = start .pre .1 .0 .words in
     let long = c .before .before .before .before .before .before .before .before .roots-found .ensures .words in
-    (start .pre .1 .1, omega arith)
+    (start .pre .1 .1 .0, omega arith)
 
 fewer-requires : tie.Need-fewer-requires
 fewer-requires c κs = search needs
@@ -42,10 +42,10 @@ enter-requires c κs =
     let found = c .before .before .before .before .before .before .before .before .before .before .before .before .before .before in
     let start = found .before .before .before .before .before .before .before .before in
     let marked = c .before .before .before .before .before .mark-all .ensures in
-    let roots = start .pre .1 .1 in
+    let roots = start .pre .1 .1 .0 in
     let few = roots .few in
     let fit = roots-fit _ _ roots in
-    let count = counted-all (c .before .before .before .before .before .before .before .before .r .given .1) (found .roots-found .ensures) in
+    let count = counted-few (c .before .before .before .before .before .before .before .before .r .given .1) (found .roots-found .ensures) in
     let least = c .before .before .fewer .ensures in
     (room-kept (start .pre .1 .0) (marked .words ∙ found .roots-found .ensures .words) (found .roots-found .ensures .floats), (omega arith, omega arith))
 
@@ -59,7 +59,7 @@ returns-2 : tie.Need-returns-2
 returns-2 c =
     let found = c .before .before .before .before .before .before .before .before .before .before .before .before .before .before .before .before .before .before .before in
     let start = found .before .before .before .before .before .before .before .before in
-    started-in (start .pre .1 .1) (rw (c .before .before .before .before .before .before .before .before .before .before .before .before .before .r .given .1) at (found .roots-found .ensures)) (c .before .before .before .before .before .before .before .before .before .before .mark-all .ensures) (c .before .before .before .before .before .before .before .fewer .ensures) (c .before .before .before .before .enter .ensures) (start .pre .1 .0)
+    started-in (start .pre .1 .1 .0) (rw (c .before .before .before .before .before .before .before .before .before .before .before .before .before .r .given .1) at (found .roots-found .ensures)) (c .before .before .before .before .before .before .before .before .before .before .mark-all .ensures) (c .before .before .before .before .before .before .before .fewer .ensures) (c .before .before .before .before .enter .ensures) (start .pre .1 .0)
 
 pub start-spec : {M : Type 1} → statement M
 start-spec =

@@ -9,7 +9,7 @@ use Rattle.walk.proofs.walk.Statement.{statement}
 use Rattle.walk.proofs.walk.Tie as tie
 
 start-requires : tie.Need-start-requires
-start-requires c κs = let start = c .before .before .before .before .before .before .before .before in (start .pre .0, (start .pre .1 .1 .1 .0, start .pre .1 .1 .0))
+start-requires c κs = let start = c .before .before .before .before .before .before .before .before in (start .pre .0, (start .pre .1 .1 .1 .0, (start .pre .1 .1 .0, start .pre .1 .1 .1 .1)))
 
 enum-known-r : tie.Need-enum-known-r
 enum-known-r c = search needs
@@ -37,7 +37,7 @@ go-on-requires c κs =
     let few = roots .few in
     let k = p .1 .1 .1 .1 in
     let least = s .1 in
-    (p .0, (p .1 .0, (room-kept (p .1 .1 .1 .0) (begun .start .ensures .words) (begun .start .ensures .floats), (s .0, (omega arith, omega arith)))))
+    (p .0, (p .1 .0, (room-kept (p .1 .1 .1 .0) (begun .start .ensures .words) (begun .start .ensures .floats), (s .0, (s .2, (omega arith, omega arith))))))
 
 same-length-3 : tie.Need-same-length-3
 same-length-3 c = c .before .before .before .before .go-on .ensures 0 .words ∙ c .before .before .before .before .before .before .before .before .before .before .before .before .before .before .start .ensures .words
