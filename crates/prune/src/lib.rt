@@ -79,8 +79,8 @@ fn four_stand(
     stands_before(threshold, equal_too, p, d, apart.d)
 }
 
-// Whether one of the first `kept` entries occludes `p`.
-fn occluded(
+// Whether one of the first `kept` entries occludes `p`, four at a time.
+fn by_four(
     lanes: &[f32],
     dimension: usize,
     n: usize,
@@ -114,6 +114,76 @@ fn occluded(
         i += 4;
     }
     false
+}
+
+// Whether one of the first `kept` entries occludes `p`, one by one.
+fn one_by_one(
+    lanes: &[f32],
+    dimension: usize,
+    n: usize,
+    threshold: f32,
+    equal_too: bool,
+    nodes: &[u32],
+    dists: &[f32],
+    kept: usize,
+    p: Neighbor,
+) -> bool
+    requires { ⌜ (length (now lanes) ≡ n * dimension) × (p .node .0 < n) × AllBelow n (entries kept (now nodes) (now dists)) ⌝ }
+    requires { ⌜ (kept ≤ length (now nodes)) × (kept ≤ length (now dists)) ⌝ }
+    ensures { λ result. ⌜ result ≡ anyOf (occludes (between (now (lanes .entry)) dimension) threshold «equal_too» p) (entries kept (now (nodes .entry)) (now (dists .entry))) ⌝ }
+{
+    let mut i = 0;
+    while i < kept {
+        let r = entry_at(nodes, dists, i);
+        let djk = metrics::between(lanes, dimension, p.node, r.node);
+        if stands_before(threshold, equal_too, p, r, djk) {
+            return true;
+        }
+        i += 1;
+    }
+    false
+}
+
+// Whether one of the first `kept` entries occludes `p`. With few lanes a distance is cheap, and the first that occludes ends the row sooner.
+fn occluded(
+    lanes: &[f32],
+    dimension: usize,
+    n: usize,
+    threshold: f32,
+    equal_too: bool,
+    nodes: &[u32],
+    dists: &[f32],
+    kept: usize,
+    p: Neighbor,
+) -> bool
+    requires { ⌜ (length (now lanes) ≡ n * dimension) × (p .node .0 < n) × AllBelow n (entries kept (now nodes) (now dists)) ⌝ }
+    requires { ⌜ (kept ≤ length (now nodes)) × (kept ≤ length (now dists)) ⌝ }
+    ensures { λ result. ⌜ result ≡ anyOf (occludes (between (now (lanes .entry)) dimension) threshold «equal_too» p) (entries kept (now (nodes .entry)) (now (dists .entry))) ⌝ }
+{
+    if dimension < 16 {
+        return one_by_one(
+            lanes,
+            dimension,
+            n,
+            threshold,
+            equal_too,
+            nodes,
+            dists,
+            kept,
+            p,
+        );
+    }
+    by_four(
+        lanes,
+        dimension,
+        n,
+        threshold,
+        equal_too,
+        nodes,
+        dists,
+        kept,
+        p,
+    )
 }
 
 // Keeps `p` behind the first `kept` entries unless one of them occludes it.

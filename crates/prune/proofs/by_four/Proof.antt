@@ -1,4 +1,4 @@
--- `prune::occluded` meets its contract. The loop's invariant: one of those that are left occludes where one of all does. Assumes nothing.
+-- `prune::by_four` meets its contract. The loop's invariant: one of those that are left occludes where one of all does. Assumes nothing.
 use mathlib.Core.Path.{_≡_, refl, sym, _∙_}
 use Prim.Native.Nat.{_-_}
 use lib.ListN.{drop}
@@ -9,8 +9,8 @@ use Rattle.rules.specs.Distance.{between}
 use Rattle.rules.specs.Build.{occludes}
 use Rattle.prune.proofs.Laws.{any-entry-end}
 use borrow.Author.Needs.{needs}
-use Rattle.prune.proofs.occluded.Statement.{statement}
-use Rattle.prune.proofs.occluded.Tie as tie
+use Rattle.prune.proofs.by_four.Statement.{statement}
+use Rattle.prune.proofs.by_four.Tie as tie
 
 abbrev Inv-loop : tie.InvT-loop
 Inv-loop lanes dimension n threshold equal-too nodes dists kept p i₀ i =
@@ -43,8 +43,8 @@ returns-2 c =
     let start = at .before .before .before .before in
     sym (any-entry-end _ _ _ _ (at .loop .i) 0 nan (start .pre .1 .0) (start .pre .1 .1) (search needs)) ∙ at .loop .inv
 
-pub occluded-spec : {M : Type 1} → statement M
-occluded-spec =
+pub by-four-spec : {M : Type 1} → statement M
+by-four-spec =
     tie.close
     (tie.spec
     Inv-loop
