@@ -1,5 +1,6 @@
 //! Builds through both sides: random ones, those kept by hand, large ones, and damaged ones judged by 01's table.
 
+use super::game::Game;
 use super::lend::{Call, Outcome, BUILD};
 use super::parts::{Bench, Judged};
 use super::{damage, fill, table};
@@ -17,9 +18,7 @@ struct Lent {
     index_size: u64,
     neighbor_neighbor_size: u64,
     threshold: u32,
-    dimension: u64,
-    n: u64,
-    lanes: Vec<u32>,
+    game: Game,
     graph: Vec<u32>,
     words: Vec<u32>,
     floats: Vec<u32>,
@@ -39,9 +38,7 @@ impl Lent {
             index_size: c.index_size as u64,
             neighbor_neighbor_size: c.neighbor_neighbor_size as u64,
             threshold: c.threshold,
-            dimension: c.lanes.dimension as u64,
-            n: n as u64,
-            lanes: c.lanes.bits,
+            game: Game::of(&c.lanes),
             graph: fill::words(rng, n * c.index_size),
             words: fill::words(rng, lengths[0]),
             floats: fill::nans(rng, lengths[1]),
@@ -51,11 +48,7 @@ impl Lent {
     /// hora's graph.
     fn rust(&self) -> Vec<u32> {
         run::graph_of(&Build {
-            lanes: Lanes {
-                dimension: self.dimension as usize,
-                nodes: self.n as usize,
-                bits: self.lanes.clone(),
-            },
+            lanes: self.game.fit(),
             init_k: self.init_k as usize,
             index_size: self.index_size as usize,
             neighbor_neighbor_size: self.neighbor_neighbor_size as usize,
@@ -75,16 +68,17 @@ impl Judged for Lent {
                 self.index_size,
                 self.neighbor_neighbor_size,
                 self.threshold as u64,
-                self.dimension,
-                self.n,
+                self.game.dimension,
+                self.game.n,
             ],
-            slices: vec![lent.lanes, lent.graph, lent.words, lent.floats],
+            slices: vec![lent.game.lanes, lent.graph, lent.words, lent.floats],
         }
     }
 
     fn refusal(&self) -> Option<table::Code> {
-        let (n, init_k, index_size) = (self.n, self.init_k, self.index_size);
-        table::game(self.dimension, 4096, n, self.lanes.len())
+        let (n, init_k, index_size) = (self.game.n, self.init_k, self.index_size);
+        self.game
+            .refusal(4096)
             .or_else(|| {
                 let limit = (1, 256, self.neighbor_neighbor_size);
                 table::parameters(&[(1, 64, init_k), (1, 64, index_size), limit])
@@ -97,7 +91,7 @@ impl Judged for Lent {
                     &[(scratch, self.words.len()), (scratch, self.floats.len())],
                 )
             })
-            .or_else(|| table::pairs(&self.lanes, self.dimension, n))
+            .or_else(|| self.game.unfit_pair())
     }
 
     fn done(&self, mut slices: Vec<Vec<u32>>) -> Outcome {
@@ -160,13 +154,10 @@ const HARMS: usize = 13;
 
 /// Harms one place of what a build is lent.
 fn harm(rng: &mut Prng, c: &mut Lent) {
-    let ends = [c.n.min(4096), c.init_k.min(64), c.index_size.min(64)];
+    let ends = [c.game.n.min(4096), c.init_k.min(64), c.index_size.min(64)];
     let scratch = least_scratch(ends[0], ends[1], ends[2]) as usize;
     match rng.below(HARMS) {
-        0 => c.dimension = damage::number(rng, 64),
-        1 => c.n = damage::number(rng, 4096),
-        2 => c.n = 1,
-        3 => damage::length(rng, &mut c.lanes),
+        which @ 0..=3 => c.game.harm(rng, which, 4096),
         4 => c.init_k = damage::number(rng, 64),
         5 => c.index_size = damage::number(rng, 64),
         6 => c.neighbor_neighbor_size = damage::number(rng, 256),
@@ -174,8 +165,8 @@ fn harm(rng: &mut Prng, c: &mut Lent) {
         8 => damage::length(rng, &mut c.graph),
         9 => damage::shorten(rng, &mut c.words, scratch),
         10 => damage::shorten(rng, &mut c.floats, scratch),
-        11 => damage::lane(rng, &mut c.lanes),
-        _ => damage::edge_nodes(rng, &mut c.lanes, c.dimension),
+        11 => damage::lane(rng, &mut c.game.lanes),
+        _ => damage::edge_nodes(rng, &mut c.game.lanes, c.game.dimension),
     }
 }
 

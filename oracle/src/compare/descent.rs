@@ -1,5 +1,6 @@
 //! Begin and an iteration: what they are lent, and what 01 and hora's Rust say of it; begins through both sides.
 
+use super::game::Game;
 use super::lend::{Call, Outcome, BEGIN, ITERATE};
 use super::parts::{Bench, Judged};
 use super::{damage, fill, state, table};
@@ -13,9 +14,7 @@ use crate::some;
 #[derive(Clone)]
 pub struct Lent {
     pub entry: u64,
-    pub dimension: u64,
-    pub n: u64,
-    pub lanes: Vec<u32>,
+    pub game: Game,
     pub k: u64,
     pub s: u64,
     pub draws: Vec<u32>,
@@ -31,9 +30,7 @@ impl Lent {
         let scratch = [512 * n + 4096; 2].map(|least| fill::at_least(rng, least));
         Lent {
             entry: BEGIN,
-            dimension: lanes.dimension as u64,
-            n: n as u64,
-            lanes: lanes.bits.clone(),
+            game: Game::of(lanes),
             k: k as u64,
             s: s as u64,
             draws: draws.to_vec(),
@@ -59,20 +56,12 @@ impl Lent {
         self.floats = fill::nans(rng, self.floats.len());
     }
 
-    fn lanes(&self) -> Lanes {
-        Lanes {
-            dimension: self.dimension as usize,
-            nodes: self.n as usize,
-            bits: self.lanes.clone(),
-        }
-    }
-
     /// hora's counts and state.
     fn rust(&self) -> ([u64; 2], State) {
         let (k, s) = (self.k as usize, self.s as usize);
         if self.entry == BEGIN {
             let (begun, _) = run::descended(&Descent {
-                lanes: self.lanes(),
+                lanes: self.game.fit(),
                 k,
                 s,
                 begin_draws: self.draws.clone(),
@@ -81,10 +70,10 @@ impl Lent {
             return ([0, 0], begun);
         }
         let done = run::iterated(&Iterate {
-            lanes: self.lanes(),
+            lanes: self.game.fit(),
             k,
             s,
-            state: state::descent_in(self.n, self.k, &self.state_u, &self.state_f),
+            state: state::descent_in(self.game.n, self.k, &self.state_u, &self.state_f),
             draws: self.draws.clone(),
         });
         ([done.cost as u64, done.total_of_new as u64], done.state)
@@ -97,9 +86,9 @@ impl Judged for Lent {
         let lent = self.clone();
         Call {
             entry: self.entry,
-            numbers: vec![self.dimension, self.n, self.k, self.s],
+            numbers: vec![self.game.dimension, self.game.n, self.k, self.s],
             slices: vec![
-                lent.lanes,
+                lent.game.lanes,
                 lent.draws,
                 lent.state_u,
                 lent.state_f,
@@ -110,8 +99,9 @@ impl Judged for Lent {
     }
 
     fn refusal(&self) -> Option<table::Code> {
-        let (n, k, s) = (self.n, self.k, self.s);
-        table::game(self.dimension, 1024, n, self.lanes.len())
+        let (n, k, s) = (self.game.n, self.k, self.s);
+        self.game
+            .refusal(1024)
             .or_else(|| table::parameters(&[(1, 64, k), (1, k, s)]))
             .or_else(|| {
                 let scratch = 512 * n + 4096;
@@ -123,7 +113,7 @@ impl Judged for Lent {
                     &[(scratch, self.words.len()), (scratch, self.floats.len())],
                 )
             })
-            .or_else(|| table::pairs(&self.lanes, self.dimension, n))
+            .or_else(|| self.game.unfit_pair())
             .or_else(|| {
                 let each = if self.entry == BEGIN { s } else { k };
                 table::draws(2 * n * each, self.draws.len())
@@ -156,22 +146,19 @@ const HARMS: usize = 14;
 
 /// Harms one place of what begin or an iteration is lent.
 pub fn harm(rng: &mut Prng, c: &mut Lent) {
-    let scratch = 512 * c.n.min(1024) as usize + 4096;
+    let scratch = 512 * c.game.n.min(1024) as usize + 4096;
     match rng.below(HARMS) {
-        0 => c.dimension = damage::number(rng, 64),
-        1 => c.n = damage::number(rng, 1024),
-        2 => c.n = 1,
-        3 => damage::length(rng, &mut c.lanes),
+        which @ 0..=3 => c.game.harm(rng, which, 1024),
         4 => c.k = damage::number(rng, 64),
         5 => c.s = damage::number(rng, c.k.min(64)),
         6 => damage::length(rng, &mut c.state_u),
         7 => damage::length(rng, &mut c.state_f),
         8 => damage::shorten(rng, &mut c.words, scratch),
         9 => damage::shorten(rng, &mut c.floats, scratch),
-        10 => damage::lane(rng, &mut c.lanes),
-        11 => damage::edge_nodes(rng, &mut c.lanes, c.dimension),
+        10 => damage::lane(rng, &mut c.game.lanes),
+        11 => damage::edge_nodes(rng, &mut c.game.lanes, c.game.dimension),
         12 => damage::length(rng, &mut c.draws),
-        _ => damage::state(rng, &mut c.state_u, &mut c.state_f, c.n as u32),
+        _ => damage::state(rng, &mut c.state_u, &mut c.state_f, c.game.n as u32),
     }
 }
 

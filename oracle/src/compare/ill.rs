@@ -156,7 +156,7 @@ pub fn lists(
 
 /// Some context list of which this holds, given its length: the length and its 64 places.
 fn context<'a>(rng: &mut Prng, d: &'a mut Lent, holds: fn(u32) -> bool) -> Option<&'a mut [u32]> {
-    let (from, to) = ((d.n * d.k) as usize, (d.n * (d.k + 260)) as usize);
+    let (from, to) = ((d.game.n * d.k) as usize, (d.game.n * (d.k + 260)) as usize);
     let lists = d.state_u[from..to].chunks_mut(65);
     let mut fitting: Vec<&mut [u32]> = lists.filter(|c| holds(c[0])).collect();
     let which = rng.below(fitting.len().max(1));
@@ -170,7 +170,7 @@ const CONTEXT_WAYS: [Way<Lent>; 4] = [
         list.map(|c| c[0] = length).is_some()
     }),
     ("a context list with a node of n or more", |rng, d| {
-        let (node, place) = (beyond(rng, d.n as u32), rng.below(64));
+        let (node, place) = (beyond(rng, d.game.n as u32), rng.below(64));
         let list = context(rng, d, |length| length > 0);
         list.map(|c| c[1 + place % c[0] as usize] = node).is_some()
     }),
@@ -181,7 +181,7 @@ const CONTEXT_WAYS: [Way<Lent>; 4] = [
             .is_some()
     }),
     ("an unused bit behind the visited pairs", |rng, d| {
-        let used = (d.n * d.n % 32) as usize;
+        let used = (d.game.n * d.game.n % 32) as usize;
         let last = d.state_u.last_mut().expect("visited pairs");
         *last |= ((used > 0) as u32) << rng.from_to(used, 31);
         used > 0
@@ -193,7 +193,7 @@ pub fn descent(rng: &mut Prng, d: &mut Lent) -> &'static str {
     if rng.below(CONTEXT_WAYS.len() + LIST_WAYS.len()) < CONTEXT_WAYS.len() {
         return one_of(rng, &CONTEXT_WAYS, d);
     }
-    lists(rng, (d.n, d.k), &mut d.state_u, &mut d.state_f)
+    lists(rng, (d.game.n, d.k), &mut d.state_u, &mut d.state_f)
 }
 
 /// The names of the ways to harm a list, and those of the ways to harm a context.

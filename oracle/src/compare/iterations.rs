@@ -87,7 +87,12 @@ fn any(rng: &mut Prng) -> Lent {
 /// A state with one place set to anything: well formed or not.
 fn one_place(rng: &mut Prng) -> Lent {
     let mut lent = any(rng);
-    damage::state(rng, &mut lent.state_u, &mut lent.state_f, lent.n as u32);
+    damage::state(
+        rng,
+        &mut lent.state_u,
+        &mut lent.state_f,
+        lent.game.n as u32,
+    );
     lent
 }
 

@@ -4,6 +4,7 @@ pub mod build;
 pub mod damage;
 pub mod descent;
 pub mod fill;
+pub mod game;
 pub mod ill;
 pub mod ill_relay;
 pub mod iterations;

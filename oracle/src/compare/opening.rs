@@ -1,5 +1,6 @@
 //! Openings of relays through both sides: those of whole relays, and damaged ones judged by 01's table.
 
+use super::game::Game;
 use super::lend::{Call, Outcome, OPEN};
 use super::parts::{Bench, Judged, Kind};
 use super::relay::{relay_of, Lent};
@@ -14,9 +15,7 @@ use crate::some;
 /// An opening with everything that it is lent.
 #[derive(Clone)]
 struct Opening {
-    dimension: u64,
-    n: u64,
-    lanes: Vec<u32>,
+    game: Game,
     k: u64,
     nodes: Vec<u32>,
     bits: Vec<u32>,
@@ -33,9 +32,7 @@ impl Opening {
         let scratch = [512 * n as usize + 4096; 2].map(|least| fill::at_least(rng, least));
         let (nodes, bits) = split(&c.lists);
         Opening {
-            dimension: c.lanes.dimension as u64,
-            n,
-            lanes: c.lanes.bits.clone(),
+            game: Game::of(&c.lanes),
             k,
             nodes,
             bits,
@@ -49,13 +46,8 @@ impl Opening {
 
     fn opened(&self) -> Steps {
         let jobs = self.jobs.chunks(2).map(|j| (j[0], j[1])).collect();
-        let lanes = Lanes {
-            dimension: self.dimension as usize,
-            nodes: self.n as usize,
-            bits: self.lanes.clone(),
-        };
         Steps::opened(&Relay {
-            lanes,
+            lanes: self.game.fit(),
             k: self.k as usize,
             lists: self
                 .nodes
@@ -75,9 +67,9 @@ impl Judged for Opening {
         let lent = self.clone();
         Call {
             entry: OPEN,
-            numbers: vec![self.dimension, self.n, self.k],
+            numbers: vec![self.game.dimension, self.game.n, self.k],
             slices: vec![
-                lent.lanes,
+                lent.game.lanes,
                 lent.nodes,
                 lent.bits,
                 lent.jobs,
@@ -90,8 +82,9 @@ impl Judged for Opening {
     }
 
     fn refusal(&self) -> Option<table::Code> {
-        let (n, k) = (self.n, self.k);
-        table::game(self.dimension, 1024, n, self.lanes.len())
+        let (n, k) = (self.game.n, self.k);
+        self.game
+            .refusal(1024)
             .or_else(|| table::parameters(&[(1, 64, k)]))
             .or_else(|| {
                 let scratch = 512 * n + 4096;
@@ -107,7 +100,7 @@ impl Judged for Opening {
                 )
             })
             .or_else(|| table::jobs(n, &self.jobs))
-            .or_else(|| table::unfit_job(&self.lanes, self.dimension, &self.jobs))
+            .or_else(|| table::unfit_job(&self.game.lanes, self.game.dimension, &self.jobs))
             .or_else(|| table::formed(lists_formed(n, k, &self.nodes, &self.bits)))
     }
 
@@ -124,12 +117,9 @@ const HARMS: usize = 17;
 
 /// Harms one place of what an opening is lent.
 fn harm(rng: &mut Prng, c: &mut Opening) {
-    let scratch = 512 * c.n.min(1024) as usize + 4096;
+    let scratch = 512 * c.game.n.min(1024) as usize + 4096;
     match rng.below(HARMS) {
-        0 => c.dimension = damage::number(rng, 64),
-        1 => c.n = damage::number(rng, 1024),
-        2 => c.n = 1,
-        3 => damage::length(rng, &mut c.lanes),
+        which @ 0..=3 => c.game.harm(rng, which, 1024),
         4 => c.k = damage::number(rng, 64),
         5 => damage::length(rng, &mut c.nodes),
         6 => damage::length(rng, &mut c.bits),
@@ -138,18 +128,18 @@ fn harm(rng: &mut Prng, c: &mut Opening) {
         9 => damage::length(rng, &mut c.state_f),
         10 => damage::shorten(rng, &mut c.words, scratch),
         11 => damage::shorten(rng, &mut c.floats, scratch),
-        12 => damage::lane(rng, &mut c.lanes),
-        13 => damage::state(rng, &mut c.jobs, &mut [], c.n as u32),
-        14 => damage::edge_nodes(rng, &mut c.lanes, c.dimension),
+        12 => damage::lane(rng, &mut c.game.lanes),
+        13 => damage::state(rng, &mut c.jobs, &mut [], c.game.n as u32),
+        14 => damage::edge_nodes(rng, &mut c.game.lanes, c.game.dimension),
         15 => harm_job(rng, c),
-        _ => damage::state(rng, &mut c.nodes, &mut c.bits, c.n as u32),
+        _ => damage::state(rng, &mut c.nodes, &mut c.bits, c.game.n as u32),
     }
 }
 
 /// The lanes of a job's two nodes at the end of the fit distances, or one of them unfit.
 fn harm_job(rng: &mut Prng, c: &mut Opening) {
-    let dimension = c.dimension.min(64) as usize;
-    let nodes = c.lanes.len() / dimension.max(1);
+    let dimension = c.game.dimension.min(64) as usize;
+    let nodes = c.game.lanes.len() / dimension.max(1);
     let of = |v: &u32| (*v as usize) < nodes;
     let (Some([u, v]), true) = (c.jobs.last_chunk::<2>(), dimension > 0) else {
         return;
@@ -163,8 +153,8 @@ fn harm_job(rng: &mut Prng, c: &mut Opening) {
     if rng.one_in(2) {
         damage::lane(rng, &mut other);
     }
-    c.lanes[u..u + dimension].copy_from_slice(&one);
-    c.lanes[v..v + dimension].copy_from_slice(&other);
+    c.game.lanes[u..u + dimension].copy_from_slice(&one);
+    c.game.lanes[v..v + dimension].copy_from_slice(&other);
 }
 
 fn small(rng: &mut Prng) -> Opening {
@@ -175,7 +165,7 @@ fn small(rng: &mut Prng) -> Opening {
 fn damaged(rng: &mut Prng) -> Opening {
     let mut opening = small(rng);
     if rng.one_in(10) {
-        let jobs = make::jobs(rng, opening.n as usize, 65);
+        let jobs = make::jobs(rng, opening.game.n as usize, 65);
         opening.jobs = jobs.iter().flat_map(|j| [j.0, j.1]).collect();
     }
     damage::some(rng, opening, harm)
@@ -185,8 +175,8 @@ fn damaged(rng: &mut Prng) -> Opening {
 fn unmeasured(rng: &mut Prng) -> Opening {
     let mut opening = small(rng);
     let (node, other) = (0, 1);
-    let lanes = opening.dimension as usize;
-    damage::lane(rng, &mut opening.lanes[..lanes]);
+    let lanes = opening.game.dimension as usize;
+    damage::lane(rng, &mut opening.game.lanes[..lanes]);
     for job in opening.jobs.chunks_mut(2) {
         if job.contains(&node) {
             job.fill(rng.pick(&[node, other]));
@@ -198,7 +188,7 @@ fn unmeasured(rng: &mut Prng) -> Opening {
 /// Lists that are not well formed, and in which way.
 fn ill_formed(rng: &mut Prng) -> (Opening, &'static str) {
     let mut o = small(rng);
-    let way = ill::lists(rng, (o.n, o.k), &mut o.nodes, &mut o.bits);
+    let way = ill::lists(rng, (o.game.n, o.k), &mut o.nodes, &mut o.bits);
     (o, way)
 }
 
@@ -212,7 +202,7 @@ pub fn open(bench: &mut Bench, kind: Kind, c: &Relay) -> Lent {
     let mut left = bench.judge(kind, &opening).slices;
     let bits = left.swap_remove(5);
     let words = left.swap_remove(4);
-    let (n, k) = (opening.n, opening.k);
+    let (n, k) = (opening.game.n, opening.k);
     Lent { n, k, words, bits }
 }
 

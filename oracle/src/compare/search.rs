@@ -1,5 +1,6 @@
 //! Searches through both sides: random ones, large ones, and damaged ones judged by 01's table.
 
+use super::game::Game;
 use super::lend::{Call, Outcome, SEARCH};
 use super::parts::{Bench, Judged, Kind};
 use super::plain::{Searched, Walked};
@@ -13,9 +14,7 @@ use crate::some;
 /// A search with everything that it is lent.
 #[derive(Clone)]
 struct Lent {
-    dimension: u64,
-    n: u64,
-    lanes: Vec<u32>,
+    game: Game,
     graph: Vec<u32>,
     index_size: u64,
     roots: Vec<u32>,
@@ -33,9 +32,7 @@ impl Lent {
         let scratch = 4 * n + 1024;
         let lengths = [c.k, c.k, scratch, scratch].map(|least| fill::at_least(rng, least));
         Lent {
-            dimension: c.lanes.dimension as u64,
-            n: n as u64,
-            lanes: c.lanes.bits,
+            game: Game::of(&c.lanes),
             graph: c.graph,
             index_size: c.index_size as u64,
             roots: c.roots,
@@ -50,9 +47,9 @@ impl Lent {
 
     fn walked(&self) -> Walked {
         Searched {
-            dimension: self.dimension as usize,
-            n: self.n as usize,
-            lanes: &self.lanes,
+            dimension: self.game.dimension as usize,
+            n: self.game.n as usize,
+            lanes: &self.game.lanes,
             graph: &self.graph,
             index_size: self.index_size as usize,
             roots: &self.roots,
@@ -66,9 +63,8 @@ impl Lent {
     fn rust(&self) -> run::Found {
         run::found(&Search {
             lanes: Lanes {
-                dimension: self.dimension as usize,
-                nodes: self.n as usize,
-                bits: damage::finite(&self.lanes),
+                bits: damage::finite(&self.game.lanes),
+                ..self.game.fit()
             },
             index_size: self.index_size as usize,
             k: self.k as usize,
@@ -94,9 +90,9 @@ impl Judged for Lent {
         let lent = self.clone();
         Call {
             entry: SEARCH,
-            numbers: vec![self.dimension, self.n, self.index_size, self.k],
+            numbers: vec![self.game.dimension, self.game.n, self.index_size, self.k],
             slices: vec![
-                lent.lanes,
+                lent.game.lanes,
                 lent.graph,
                 lent.roots,
                 lent.query,
@@ -110,8 +106,9 @@ impl Judged for Lent {
 
     /// The rows that are tested before the walk.
     fn refusal(&self) -> Option<table::Code> {
-        let (n, k) = (self.n, self.k);
-        table::game(self.dimension, 4096, n, self.lanes.len())
+        let (n, k) = (self.game.n, self.k);
+        self.game
+            .refusal(4096)
             .or_else(|| table::parameters(&[(1, 64, self.index_size), (1, 64, k)]))
             .or_else(|| {
                 table::buffers(
@@ -125,7 +122,7 @@ impl Judged for Lent {
                 )
             })
             .or_else(|| table::roots(n, &self.roots))
-            .or_else(|| table::query(self.dimension, self.query.len()))
+            .or_else(|| table::query(self.game.dimension, self.query.len()))
     }
 
     /// The walk; at its first unfit distance row 10.
@@ -133,7 +130,7 @@ impl Judged for Lent {
         slices[6].fill(0);
         slices[7].fill(0);
         match self.walked() {
-            Walked::Unfit(v) => Outcome::refused((10, v as u64, self.n), slices),
+            Walked::Unfit(v) => Outcome::refused((10, v as u64, self.game.n), slices),
             Walked::Found(best, takings) => {
                 for (i, (bits, node)) in best.iter().enumerate() {
                     slices[4][i] = *node;
@@ -201,12 +198,9 @@ const HARMS: usize = 17;
 
 /// Harms one place of what a search is lent.
 fn harm(rng: &mut Prng, c: &mut Lent) {
-    let (scratch, k) = (4 * c.n.min(4096) as usize + 1024, c.k.min(64) as usize);
+    let (scratch, k) = (4 * c.game.n.min(4096) as usize + 1024, c.k.min(64) as usize);
     match rng.below(HARMS) {
-        0 => c.dimension = damage::number(rng, 64),
-        1 => c.n = damage::number(rng, 4096),
-        2 => c.n = 1,
-        3 => damage::length(rng, &mut c.lanes),
+        which @ 0..=3 => c.game.harm(rng, which, 4096),
         4 => c.index_size = damage::number(rng, 64),
         5 => c.k = damage::number(rng, 64),
         6 => damage::length(rng, &mut c.graph),
@@ -218,7 +212,7 @@ fn harm(rng: &mut Prng, c: &mut Lent) {
         12 => harm_root(rng, c),
         13 => damage::length(rng, &mut c.query),
         14 => damage::lane(rng, &mut c.query),
-        15 => damage::lane(rng, &mut c.lanes),
+        15 => damage::lane(rng, &mut c.game.lanes),
         _ => harm_edge(rng, c),
     }
 }
@@ -230,7 +224,7 @@ fn harm_root(rng: &mut Prng, c: &mut Lent) {
     }
     let at = rng.below(c.roots.len());
     let repeated = c.roots[rng.below(c.roots.len())];
-    let beyond = c.n as u32;
+    let beyond = c.game.n as u32;
     match rng.below(3) {
         0 => c.roots[at] = rng.pick(&[beyond, beyond.wrapping_add(1), u32::MAX]),
         1 => c.roots[at] = repeated,
@@ -240,12 +234,12 @@ fn harm_root(rng: &mut Prng, c: &mut Lent) {
 
 /// A node whose distance to the query is at the end of the fit ones.
 fn harm_edge(rng: &mut Prng, c: &mut Lent) {
-    let (dimension, nodes) = (c.query.len(), c.lanes.len() / c.query.len().max(1));
+    let (dimension, nodes) = (c.query.len(), c.game.lanes.len() / c.query.len().max(1));
     if dimension == 0 || nodes == 0 {
         return;
     }
     let at = rng.below(nodes) * dimension;
-    damage::edge(&mut c.query, &mut c.lanes[at..at + dimension]);
+    damage::edge(&mut c.query, &mut c.game.lanes[at..at + dimension]);
 }
 
 fn damaged(rng: &mut Prng) -> Lent {
