@@ -2,7 +2,8 @@
 
    A call is u64: the entry (0 ends), the count of numbers, the numbers, the count of slices; then each slice as a u64 length and its u32 words
    (an f32 by its bits). The reply is five u64, what the entry said (unused ones 0), and then every slice, read-only ones too, with
-   GUARD words before it and behind it. Slices are separate allocations; guard words are GUARD_WORD.
+   GUARD words before it and behind it. Slices are separate allocations; guard words are GUARD_WORD, and 0 at every fourth call: a word
+   read from behind a slice shows by what it is taken for, and 0 passes for more than any other.
    `lend spoil` turns one bit of each reply round, to see that the other program notices. */
 #include "spoonmeadow.h"
 #include <stdio.h>
@@ -18,6 +19,7 @@ static uint32_t *word[MOST_SLICES]; /* the slice itself */
 static float *lane[MOST_SLICES];    /* the same, as floats */
 static size_t length[MOST_SLICES];
 static uint64_t reply[5];
+static uint64_t calls; /* before this one */
 
 static void must(int holds, const char *what) {
     if (!holds) {
@@ -46,8 +48,9 @@ static void get_slice(size_t i) {
     must(room[i] != NULL, "no room");
     word[i] = room[i] + GUARD;
     lane[i] = (float *)(void *)word[i];
+    uint32_t guard = calls % 4 == 3 ? 0 : GUARD_WORD;
     for (size_t g = 0; g < GUARD; g++) {
-        room[i][g] = word[i][length[i] + g] = GUARD_WORD;
+        room[i][g] = word[i][length[i] + g] = guard;
     }
     get(word[i], sizeof(uint32_t), length[i]);
 }
@@ -146,5 +149,6 @@ int main(int words, char **said) {
             free(room[i]);
         }
         must(fflush(stdout) == 0, "nobody reads");
+        calls++;
     }
 }

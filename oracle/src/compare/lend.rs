@@ -49,6 +49,7 @@ pub struct Library {
     child: Child,
     to: BufWriter<ChildStdin>,
     from: BufReader<ChildStdout>,
+    calls: u64,
 }
 
 impl Library {
@@ -62,7 +63,12 @@ impl Library {
             .unwrap_or_else(|e| panic!("{}: {}", program, e));
         let to = BufWriter::with_capacity(1 << 16, child.stdin.take().unwrap());
         let from = BufReader::with_capacity(1 << 16, child.stdout.take().unwrap());
-        Library { child, to, from }
+        Library {
+            child,
+            to,
+            from,
+            calls: 0,
+        }
     }
 
     pub fn call(&mut self, call: &Call) -> Reply {
@@ -73,13 +79,15 @@ impl Library {
             self.from.read_exact(&mut bytes).expect("an answer");
             *x = u64::from_le_bytes(bytes);
         }
+        let guard = if self.calls % 4 == 3 { 0 } else { GUARD_WORD };
+        self.calls += 1;
         let mut guarded = true;
         let mut slices = Vec::new();
         for lent in &call.slices {
             let mut words = self.words(lent.len() + 2 * GUARD);
             let behind = words.split_off(GUARD + lent.len());
             let slice = words.split_off(GUARD);
-            guarded &= words.iter().chain(&behind).all(|w| *w == GUARD_WORD);
+            guarded &= words.iter().chain(&behind).all(|w| *w == guard);
             slices.push(slice);
         }
         Reply {
