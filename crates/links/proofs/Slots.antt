@@ -19,7 +19,7 @@ use Rattle.rules.proofs.Loops.{turns-turn}
 use Rattle.lists.proofs.Slices.{length-entries, entries-take, take-entries, getD-entries, nodesOf-entries}
 use Rattle.lists.proofs.Plain.{all-at}
 use Rattle.rows.specs.Live.{LiveIn}
-use Rattle.rows.proofs.Laws.{row-in, entries-append, entries-from, part-entries}
+use Rattle.rows.proofs.Laws.{slots-most, row-in, entries-append, entries-from, part-entries}
 use Rattle.offers.specs.Sound.{Sound}
 use Rattle.offers.proofs.Laws.{sound-offered, sound-part, sound-put}
 use Rattle.links.specs.Links.{Room, Linked, linksOf, linksAll}
@@ -119,9 +119,16 @@ least-one : (w v : ℕ) → 1 ≤ w → v ≤ v * w
 least-one w zero h = zero-le
 least-one w (suc v) h = let i = least-one w v h in let m = suc-mul v w in omega arith
 
--- "read slot i + v": it is one of the n times w
-pub slot-in : (n w v i : ℕ) → v < n → i < w → i + v < n * w
-slot-in n w v i l k = let r = row-in n w v l in let m = least-one w v (omega arith) in omega arith
+-- "read slot i + v": it is one of the n times w, and these are few
+pub record SlotIn (n w s : ℕ) : Type 0 where
+  pub within : s < n * w
+  pub most : n * w ≤ 262144
+
+pub slot-at : {n w v i : ℕ} → n ≤ 4096 → w ≤ 64 → v < n → i < w → SlotIn n w (i + v)
+slot-at {n} {w} {v} {i} h g l k =
+    let r = row-in n w v l in
+    let m = least-one w v (omega arith) in
+    record { within = omega arith; most = slots-most n w h g }
 
 module _ (n w : ℕ) (ns : List ℕ) (ds : List Float) (d : Between) (t : Float) (v i : ℕ) (h : n * w ≤ length ns) (g : n * w ≤ length ds) (l : i + v < n * w) (S : Sound n (entries (n * w) ns ds)) (z : Float) where
   read-is : getD (entries (n * w) ns ds) (i + v) (emptySlot 0) ≡ neighbor (getD ns (i + v) 0) (getD ds (i + v) z)
