@@ -2,10 +2,9 @@
 use mathlib.Core.Path.{_≡_, sym, ap, _∙_}
 use mathlib.Core.List.{List, [], _∷_}
 use Prim.Native.Nat.{ℕ, zero, suc, _+_, _-_, _≤_, _<_}
-use native.Mathlib.Numerals.{add-one}
 use native.Mathlib.Omega.{arith}
 use lib.ListN.{length, take, drop, getD, length-take, length-drop}
-use lib.Seq.{take-take, drop-drop, take-all, getD-drop, drop-cons}
+use lib.Seq.{take-take, drop-drop, take-all, getD-drop}
 use Rattle.rules.specs.DescentPlaces.{membersIn}
 use Rattle.lists.proofs.Plain.{all-at}
 use Rattle.passes.specs.Passes.{Below, Short, Members, MembersOf, Contexted}
@@ -35,14 +34,19 @@ members-cut {n} us at {w} h e =
     sym (take-take w 64 (drop (at + 1) us) (omega arith)) ∙ ap (λ (l : List ℕ). take w (take 64 l)) (sym (drop-drop 1 at us)) ∙ ap (λ (i : ℕ). take i (take 64 (drop 1 (drop at us)))) (sym len) in
     record { list = same; short = rw same (members-short h) }
 
-pub members-room : {n : ℕ} (us : List ℕ) (at : ℕ) → Members n (drop at us) → (at + 65 ≤ length us) × (getD us at 0 ≤ 64)
+-- its length and its places lie within the words
+pub record ListIn (us : List ℕ) (at : ℕ) : Type 0 where
+  pub room : at + 65 ≤ length us
+  pub few : getD us at 0 ≤ 64
+
+pub members-room : {n : ℕ} (us : List ℕ) (at : ℕ) → Members n (drop at us) → ListIn us at
 members-room us at h =
     let none : at + 0 ≡ at = omega arith in
     let len : getD (drop at us) 0 0 ≡ getD us at 0 = getD-drop at us 0 0 ∙ ap (λ (i : ℕ). getD us i 0) none in
     let few = h .few in
     let room = h .room in
     let e = length-drop at us in
-    (omega arith, omega arith)
+    record { room = omega arith; few = omega arith }
 
 pub short-at : {n : ℕ} {vs : List ℕ} (i : ℕ) → Short n vs → i < length vs → getD vs i 0 < n
 short-at {n} {vs} i h l = all-at (λ (v : ℕ). v < n) vs i 0 (h .below) l
@@ -61,12 +65,6 @@ short-drop {n} {vs} i h =
 -- the part from a place on, as the code cuts it out
 pub short-end : {n : ℕ} {vs : List ℕ} (i : ℕ) → Short n vs → Short n (take (length vs - i) (drop i vs))
 short-end {n} {vs} i h = rw (to-end i vs) (short-drop i h)
-
-pub from-place : (vs : List ℕ) (i : ℕ) → i < length vs → take (length vs - i) (drop i vs) ≡ getD vs i 0 ∷ drop (suc i) vs
-from-place vs i h = to-end i vs ∙ drop-cons vs i 0 h
-
-pub from-next : (vs : List ℕ) (i : ℕ) → take (length vs - (i + 1)) (drop (i + 1) vs) ≡ drop (suc i) vs
-from-next vs i = to-end (i + 1) vs ∙ ap (λ (j : ℕ). drop j vs) (add-one i)
 
 pub contexted-end : {n : ℕ} (us : List ℕ) (i : ℕ) → Contexted n (drop i us) → Contexted n (take (length us - i) (drop i us))
 contexted-end us i h = rw (to-end i us) h

@@ -1,22 +1,20 @@
 -- Turns that each change a descent's state, and the pairs of a pass as such turns. Assumes nothing.
 use mathlib.Core.Path.{_≡_, refl, sym, ap, _∙_, subst}
 use mathlib.Core.Bool.{Bool, true, false, cond}
-use mathlib.Core.List.{List, [], _∷_, _++_, map}
-use Prim.Native.Nat.{ℕ, zero, suc, _+_, _*_, _≤_, _<_}
+use mathlib.Core.List.{List, [], _∷_, _++_, map, append-assoc, append-nil}
+use Prim.Native.Nat.{ℕ, zero, suc, _+_, _*_, _≤_, zero-le}
 use native.Mathlib.Nat.{suc-mul}
 use native.Mathlib.Numerals.{add-one}
 use native.Mathlib.Omega.{arith}
-use borrow.Author.Tests.{lt-ltb, le-ltb}
 use lib.Dec.{ltb}
 use lib.ListN.{length, drop, getD}
 use lib.Ieee.{Float}
 use Rattle.rules.specs.Loops.{turns, through, each}
-use Rattle.rules.specs.Build.{Between}
-use Rattle.rules.specs.Descent.{Context, Met, Pair, pair, cross, ownPairs, risingWith, risingPairs, meet, meetAll, passes}
-use Rattle.rules.proofs.Loops.{turns-turn, turns-same, through-append}
+use Rattle.rules.specs.Descent.{Met, Pair, pair, cross, ownPairs, risingWith, risingPairs, passes}
+use Rattle.rules.proofs.Loops.{turns-turn, through-append}
 use Rattle.meets.specs.Meets.{Game, Holds, Does}
 use Rattle.rules.specs.DescentPlaces.{contextIn}
-use Rattle.passes.specs.Passes.{onePair, MembersOf}
+use Rattle.passes.specs.Passes.{joins, onePair, rowPairs, firstOf, Within, passPairs, earlyPairs, latePairs, MembersOf}
 
 -- ---- one change after another
 
@@ -68,61 +66,54 @@ module _ (n k b : ℕ) (g : ℕ → Met → Met) where
 
 -- ---- the pairs of a pass, place by place
 
--- the first turn comes first
-turns-front : {S : Type 0} (g : ℕ → S → S) (n : ℕ) (s : S) → turns g (suc n) s ≡ turns (λ (i : ℕ). g (suc i)) n (g 0 s)
-unfolding turns
-turns-front g zero s = refl
-turns-front g (suc n) s = ap (g (suc n)) (turns-front g n s)
+-- the turns of a loop as one list of what they are taken over
+pub turns-each : {A S : Type 0} (F : A → S → S) (f : ℕ → List A) (n : ℕ) (s : S) → turns (λ (i : ℕ). through F (f i)) n s ≡ through F (each f n) s
+unfolding turns through each
+turns-each F f zero s = refl
+turns-each F f (suc n) s = ap (through F (f n)) (turns-each F f n s) ∙ sym (through-append F (each f n) (f n) s)
 
--- a list of pairs made place by place, from a node and those behind it
-module _ (F : Pair → Met → Met) (P : List ℕ → List Pair) (h : ℕ → List ℕ → List Pair) (none : P [] ≡ []) (more : (x : ℕ) (xs : List ℕ) → P (x ∷ xs) ≡ h x xs ++ P xs) where
-  place-by-place : (xs : List ℕ) (m : Met) → turns (λ (i : ℕ). through F (h (getD xs i 0) (drop (suc i) xs))) (length xs) m ≡ through F (P xs) m
-  unfolding turns through
-  place-by-place [] m = sym (ap (λ (l : List Pair). through F l m) none)
-  place-by-place (x ∷ xs) m =
-      turns-front (λ (i : ℕ). through F (h (getD (x ∷ xs) i 0) (drop (suc i) (x ∷ xs)))) (length xs) m
-      ∙ place-by-place xs (through F (h x xs) m)
-      ∙ sym (through-append F (h x xs) (P xs) m)
-      ∙ sym (ap (λ (l : List Pair). through F l m) (more x xs))
+-- the first list comes first
+each-front : {A : Type 0} (f : ℕ → List A) (n : ℕ) → each f (suc n) ≡ f 0 ++ each (λ (i : ℕ). f (suc i)) n
+unfolding each
+each-front f zero = sym (append-nil (f 0))
+each-front {A} f (suc n) = ap (λ (l : List A). l ++ f (suc n)) (each-front f n) ∙ append-assoc (f 0) (each (λ (i : ℕ). f (suc i)) n) (f (suc n))
 
-module _ (F : Pair → Met → Met) where
-  pub row-turns : (u : ℕ) (vs : List ℕ) (m : Met) → turns (λ (i : ℕ). F (pair u (getD vs i 0))) (length vs) m ≡ through F (map (pair u) vs) m
-  unfolding through
-  row-turns u vs m =
-      turns-same (λ (i : ℕ). F (pair u (getD vs i 0))) (λ (i : ℕ). through F (pair u (getD vs i 0) ∷ [])) (λ i s. refl) (length vs) m
-      ∙ place-by-place F (map (pair u)) (λ y ys. pair u y ∷ []) refl (λ y ys. refl) vs m
+-- a list of pairs made place by place, from a node, those from its place on and those behind it
+module _ (P : List ℕ → List Pair) (h : ℕ → List ℕ → List ℕ → List Pair) (none : P [] ≡ []) (more : (x : ℕ) (xs : List ℕ) → P (x ∷ xs) ≡ h x (x ∷ xs) xs ++ P xs) where
+  place-by-place : (xs : List ℕ) → each (λ (i : ℕ). h (getD xs i 0) (drop i xs) (drop (suc i) xs)) (length xs) ≡ P xs
+  unfolding each
+  place-by-place [] = sym none
+  place-by-place (x ∷ xs) =
+      each-front (λ (i : ℕ). h (getD (x ∷ xs) i 0) (drop i (x ∷ xs)) (drop i xs)) (length xs)
+      ∙ ap (λ (l : List Pair). h x (x ∷ xs) xs ++ l) (place-by-place xs) ∙ sym (more x xs)
 
-  pub rising-turns : (u : ℕ) (vs : List ℕ) (m : Met) → turns (λ (i : ℕ). through F (onePair u (getD vs i 0))) (length vs) m ≡ through F (risingWith u vs) m
-  unfolding risingWith onePair
-  rising-turns u vs m = place-by-place F (risingWith u) (λ y ys. onePair u y) refl (λ y ys. split (ltb u y) (pair u y) (risingWith u ys)) vs m
-    where
-      split : (b : Bool) (p : Pair) (ps : List Pair) → cond b (p ∷ ps) ps ≡ cond b (p ∷ []) [] ++ ps
-      split true p ps = refl
-      split false p ps = refl
-
-  pub cross-turns : (us vs : List ℕ) (m : Met) → turns (λ (i : ℕ). through F (map (pair (getD us i 0)) vs)) (length us) m ≡ through F (cross us vs) m
-  unfolding cross
-  cross-turns us vs m = place-by-place F (λ xs. cross xs vs) (λ x xs. map (pair x) vs) refl (λ x xs. refl) us m
-
-  pub own-turns : (us : List ℕ) (m : Met) → turns (λ (i : ℕ). through F (map (pair (getD us i 0)) (getD us i 0 ∷ drop (suc i) us))) (length us) m ≡ through F (ownPairs us) m
-  unfolding ownPairs
-  own-turns us m = place-by-place F ownPairs (λ x xs. map (pair x) (x ∷ xs)) refl (λ x xs. refl) us m
-
-  pub pairs-turns : (us : List ℕ) (m : Met) → turns (λ (i : ℕ). through F (risingWith (getD us i 0) (drop (suc i) us))) (length us) m ≡ through F (risingPairs us) m
-  unfolding risingPairs
-  pairs-turns us m = place-by-place F risingPairs risingWith refl (λ x xs. refl) us m
-
--- the contexts of all nodes
-pub all-turns : (d : Between) (n k : ℕ) (f : ℕ → Context) (count : ℕ) (m : Met) → turns (λ (i : ℕ). through (meet d n k) (passes (f i))) count m ≡ meetAll d n k (each (λ (i : ℕ). f i ∷ []) count) m
-unfolding meetAll turns through each
-all-turns d n k f count m = go count
+pub row-is : (rising : Bool) (u : ℕ) (vs : List ℕ) → each (λ (i : ℕ). onePair rising u (getD vs i 0)) (length vs) ≡ rowPairs rising u vs
+unfolding joins onePair rowPairs risingWith
+row-is rising u vs = place-by-place (rowPairs rising u) (λ y here behind. onePair rising u y) (none rising) (more rising) vs
   where
-    F : Context → Met → Met
-    F c s = through (meet d n k) (passes c) s
+    none : (r : Bool) → cond r (risingWith u []) (map (pair u) []) ≡ []
+    none true = refl
+    none false = refl
 
-    go : (c : ℕ) → turns (λ (i : ℕ). through (meet d n k) (passes (f i))) c m ≡ through F (each (λ (i : ℕ). f i ∷ []) c) m
-    go zero = refl
-    go (suc c) = ap (through (meet d n k) (passes (f c))) (go c) ∙ sym (through-append F (each (λ (i : ℕ). f i ∷ []) c) (f c ∷ []) m)
+    split : (b : Bool) (p : Pair) (ps : List Pair) → cond b (p ∷ ps) ps ≡ cond b (p ∷ []) [] ++ ps
+    split true p ps = refl
+    split false p ps = refl
+
+    more : (r : Bool) (y : ℕ) (ys : List ℕ) → rowPairs r u (y ∷ ys) ≡ onePair r u y ++ rowPairs r u ys
+    more true y ys = split (ltb u y) (pair u y) (risingWith u ys)
+    more false y ys = refl
+
+pub cross-is : (us vs : List ℕ) → passPairs false false us vs ≡ cross us vs
+unfolding passPairs rowPairs firstOf cross
+cross-is us vs = place-by-place (λ xs. cross xs vs) (λ x here behind. map (pair x) vs) refl (λ x xs. refl) us
+
+pub own-is : (us : List ℕ) → passPairs true false us us ≡ ownPairs us
+unfolding passPairs rowPairs firstOf ownPairs
+own-is us = place-by-place ownPairs (λ x here behind. map (pair x) here) refl (λ x xs. refl) us
+
+pub rising-is : (us : List ℕ) → passPairs true true us us ≡ risingPairs us
+unfolding passPairs rowPairs firstOf risingPairs
+rising-is us = place-by-place risingPairs (λ x here behind. risingWith x behind) refl (λ x xs. refl) us
 
 -- ---- what the table leaves for a descent stays
 
@@ -130,42 +121,50 @@ pub game-kept : {dimension n k : ℕ} {lanes : List Float} {us us' : List ℕ} {
 game-kept g e f =
     record { lanes-long = g .lanes-long; few = g .few; some = g .some; narrow = g .narrow; words = e ∙ g .words; floats = f ∙ g .floats }
 
--- ---- a pair that meets only where its smaller node comes first
+-- ---- where partners begin
 
-module _ {n k : ℕ} {us : List ℕ} {fs : List Float} {c : ℕ} where
-  pub rising-one : (d : Between) (u v : ℕ) {us' : List ℕ} {fs' : List Float} {c' : ℕ} → u < v → Does n k 1 (meet d n k (pair u v)) us fs c us' fs' c'
-      → Does n k 1 (through (meet d n k) (onePair u v)) us fs c us' fs' c'
+pub within-all : (us vs : List ℕ) → Within false false us vs
+unfolding firstOf
+within-all us vs = record { each = λ i l. zero-le }
+
+pub within-behind : (rising : Bool) (us : List ℕ) → Within true rising us us
+unfolding firstOf
+within-behind true us = record { each = λ i l. l }
+within-behind false us = record { each = λ i l. omega arith }
+
+-- ---- pairs that meet
+
+module _ {n k : ℕ} {us us' : List ℕ} {fs fs' : List Float} {c c' : ℕ} where
+  -- a pair that meets, and one that does not
+  pub one-joins : (F : Pair → Met → Met) (rising : Bool) (u v : ℕ) → joins rising u v ≡ true → Does n k 1 (F (pair u v)) us fs c us' fs' c' → Does n k 1 (through F (onePair rising u v)) us fs c us' fs' c'
   unfolding through onePair
-  rising-one d u v h e = does-as (λ m. rw (lt-ltb u v h)) (omega arith) e
+  one-joins F rising u v h d = does-as (λ m. rw h) (omega arith) d
 
-  pub rising-none : (F : Pair → Met → Met) (u v : ℕ) → v ≤ u → Does n k 1 (through F (onePair u v)) us fs c us fs c
-  unfolding through onePair
-  rising-none F u v h = does-nothing 1 (λ m. rw (le-ltb u v h))
+  -- the same pairs, said another way
+  pub does-pairs : {b : ℕ} (F : Pair → Met → Met) {ps qs : List Pair} → ps ≡ qs → Does n k b (through F ps) us fs c us' fs' c' → Does n k b (through F qs) us fs c us' fs' c'
+  does-pairs {b} F e d = subst (λ (l : List Pair). Does n k b (through F l) us fs c us' fs' c') e d
 
--- the same list, cut out another way
-pub does-list : {n k : ℕ} {us us' : List ℕ} {fs fs' : List Float} {c c' : ℕ} (F : Pair → Met → Met) (h : List ℕ → List Pair) {vs vs' : List ℕ} → vs ≡ vs'
+  -- the turns of a loop over pairs
+  pub doing-pairs : {most : ℕ} (b : ℕ) (F : Pair → Met → Met) (f : ℕ → List Pair) {qs : List Pair} (i : ℕ) → Doing n k b (λ (j : ℕ). through F (f j)) us fs c us' fs' c' i → each f i ≡ qs → i * b ≤ most → Does n k most (through F qs) us fs c us' fs' c'
+  doing-pairs b F f i d e l = does-pairs F e (doing-end n k b (λ (j : ℕ). through F (f j)) i d (turns-each F f i) l)
+
+pub one-passed : {n k : ℕ} {us : List ℕ} {fs : List Float} {c : ℕ} (F : Pair → Met → Met) (rising : Bool) (u v : ℕ) → joins rising u v ≡ false → Does n k 1 (through F (onePair rising u v)) us fs c us fs c
+unfolding through onePair
+one-passed F rising u v h = does-nothing 1 (λ m. rw h)
+
+pub does-append : {n k a b : ℕ} {us us' us'' : List ℕ} {fs fs' fs'' : List Float} {c c' c'' : ℕ} (F : Pair → Met → Met) (ps qs : List Pair)
+    → Does n k a (through F ps) us fs c us' fs' c' → Does n k b (through F qs) us' fs' c' us'' fs'' c'' → Does n k (a + b) (through F (ps ++ qs)) us fs c us'' fs'' c''
+does-append F ps qs d e = does-as (λ m. sym (through-append F ps qs m)) (omega arith) (does-then d e)
+
+-- the part of a list that the code cuts out
+pub does-part : {n k : ℕ} {us us' : List ℕ} {fs fs' : List Float} {c c' : ℕ} (F : Pair → Met → Met) (h : List ℕ → List Pair) {vs vs' : List ℕ} → vs ≡ vs'
     → Does n k (length vs) (through F (h vs)) us fs c us' fs' c' → Does n k (length vs') (through F (h vs')) us fs c us' fs' c'
-does-list {n} {k} {us} {us'} {fs} {fs'} {c} {c'} F h e d = subst (λ (l : List ℕ). Does n k (length l) (through F (h l)) us fs c us' fs' c') e d
+does-part {n} {k} {us} {us'} {fs} {fs'} {c} {c'} F h e d = subst (λ (l : List ℕ). Does n k (length l) (through F (h l)) us fs c us' fs' c') e d
 
 -- ---- the seven passes
 
-module _ (F : Pair → Met → Met) where
-  passes-are : (c : Context) (m : Met)
-      → through F (cross (c .old) (c .reversed-new)) (through F (cross (c .new) (c .reversed-new)) (through F (cross (c .new) (c .reversed-old)) (through F (cross (c .reversed-new) (c .reversed-old)) (through F (risingPairs (c .reversed-new)) (through F (cross (c .new) (c .old)) (through F (ownPairs (c .new)) m)))))) ≡ through F (passes c) m
-  unfolding passes
-  passes-are c m =
-      sym
-      (through-append F (ownPairs (c .new)) _ m ∙ through-append F (cross (c .new) (c .old)) _ _ ∙ through-append F (risingPairs (c .reversed-new)) _ _
-      ∙ through-append F (cross (c .reversed-new) (c .reversed-old)) _ _ ∙ through-append F (cross (c .new) (c .reversed-old)) _ _
-      ∙ through-append F (cross (c .new) (c .reversed-new)) _ _)
-
-  pub passes-end : {n k : ℕ} {ctx new old reversed-new reversed-old us us' : List ℕ} {fs fs' : List Float} {c c' : ℕ} (b : ℕ)
-      → MembersOf n (drop 0 ctx) new → MembersOf n (drop 65 ctx) old → MembersOf n (drop 130 ctx) reversed-new → MembersOf n (drop 195 ctx) reversed-old → b ≤ 28672
-      → Does n k b (λ m. through F (cross old reversed-new) (through F (cross new reversed-new) (through F (cross new reversed-old) (through F (cross reversed-new reversed-old) (through F (risingPairs reversed-new) (through F (cross new old) (through F (ownPairs new) m))))))) us fs c us' fs' c'
-      → Does n k 28672 (through F (passes (contextIn ctx))) us fs c us' fs' c'
-  unfolding contextIn
-  passes-end {ctx = ctx} b M1 M2 M3 M4 l d = does-as (λ m. rw (M1 .list, M2 .list, M3 .list, M4 .list) (passes-are (contextIn ctx) m)) l d
-
-pub does-context : {n k b : ℕ} {us us' : List ℕ} {fs fs' : List Float} {c c' : ℕ} (F : Pair → Met → Met) {vs vs' : List ℕ} → vs ≡ vs'
-    → Does n k b (through F (passes (contextIn vs))) us fs c us' fs' c' → Does n k b (through F (passes (contextIn vs'))) us fs c us' fs' c'
-does-context {n} {k} {b} {us} {us'} {fs} {fs'} {c} {c'} F e d = subst (λ (l : List ℕ). Does n k b (through F (passes (contextIn l))) us fs c us' fs' c') e d
+pub passes-are : {n : ℕ} {ctx new old reversed-new reversed-old : List ℕ} → MembersOf n (drop 0 ctx) new → MembersOf n (drop 65 ctx) old → MembersOf n (drop 130 ctx) reversed-new → MembersOf n (drop 195 ctx) reversed-old
+    → earlyPairs new old reversed-new ++ latePairs new old reversed-new reversed-old ≡ passes (contextIn ctx)
+unfolding earlyPairs latePairs passes contextIn
+passes-are {n} {ctx} {new} {old} {reversed-new} {reversed-old} M1 M2 M3 M4 =
+    append-assoc (ownPairs new) _ _ ∙ ap (λ (l : List Pair). ownPairs new ++ l) (append-assoc (cross new old) _ _) ∙ rw (M1 .list, M2 .list, M3 .list, M4 .list)

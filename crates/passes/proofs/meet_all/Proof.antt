@@ -1,15 +1,16 @@
 -- `passes::meet_all` meets its contract: the contexts before the i-th are done. Assumes nothing.
-use mathlib.Core.Path.{_≡_}
+use mathlib.Core.Path.{_≡_, ap}
+use mathlib.Core.List.{List, [], _∷_}
 use Prim.Native.Nat.{ℕ, _-_, _*_, _≤_}
 use native.Mathlib.Omega.{arith}
 use lib.ListN.{drop}
 use Rattle.rules.specs.Loops.{through}
 use Rattle.rules.specs.Distance.{between}
-use Rattle.rules.specs.Descent.{meet, passes}
+use Rattle.rules.specs.Descent.{meet, meetAll, passes}
 use Rattle.rules.specs.DescentPlaces.{contextIn}
 use Rattle.passes.specs.Passes.{contextsIn}
 use Rattle.passes.proofs.Contexts.{to-end, contexted-end}
-use Rattle.passes.proofs.Laws.{Doing, doing-none, doing-more, doing-end, all-turns, game-kept, does-context}
+use Rattle.passes.proofs.Laws.{Doing, doing-none, doing-more, doing-end, turns-each, game-kept, does-pairs}
 use borrow.Author.Needs.{needs}
 use Rattle.passes.proofs.meet_all.Statement.{statement}
 use Rattle.passes.proofs.meet_all.Tie as tie
@@ -59,7 +60,7 @@ loop-less c = search needs
 loop-again : tie.Need-loop-again Inv-loop μ-loop
 loop-again c =
     let at = c .before .before .before .before .before .before .before .before .before in
-    (search needs, doing-more _ _ 28672 _ (at .loop .inv .1) (does-context _ (to-end (260 * at .loop .i) (at .before .before .before .before .before .args .contexts .now)) (c .before .before .before .before .passes .ensures)) (omega arith))
+    (search needs, doing-more _ _ 28672 _ (at .loop .inv .1) (does-pairs _ (ap (λ (l : List ℕ). passes (contextIn l)) (to-end (260 * at .loop .i) (at .before .before .before .before .before .args .contexts .now))) (c .before .before .before .before .passes .ensures)) (omega arith))
 
 same-length : tie.Need-same-length Inv-loop μ-loop
 same-length c = search needs
@@ -68,14 +69,14 @@ same-length-2 : tie.Need-same-length-2 Inv-loop μ-loop
 same-length-2 c = search needs
 
 returns : tie.Need-returns Inv-loop μ-loop
-unfolding contextsIn
+unfolding contextsIn meetAll through
 returns c =
     let at = c .before in
     let i = at .loop .i in
     let within = at .loop .inv .0 in
     let past = c .loop-test .left in
     let e : i ≡ at .before .before .before .before .before .args .n = omega arith in
-    doing-end _ _ 28672 _ i (at .loop .inv .1) (λ m. rw e (all-turns _ _ _ _ _ m)) (rw e (omega arith))
+    doing-end _ _ 28672 _ i (at .loop .inv .1) (λ m. rw e (turns-each _ (λ (j : ℕ). contextIn (drop (260 * j) (at .before .before .before .before .before .args .contexts .now)) ∷ []) _ m)) (rw e (omega arith))
 
 pub meet-all-spec : {M : Type 1} → statement M
 meet-all-spec =

@@ -3,31 +3,33 @@ use mathlib.Core.Path.{_≡_}
 use Prim.Native.Nat.{ℕ, _-_, _≤_}
 use native.Mathlib.Omega.{arith}
 use lib.ListN.{length, getD}
+use Rattle.rules.specs.Loops.{through}
 use Rattle.rules.specs.Distance.{between}
-use Rattle.rules.specs.Descent.{pair, meet}
+use Rattle.rules.specs.Descent.{meet}
+use Rattle.passes.specs.Passes.{onePair}
 use Rattle.passes.proofs.Contexts.{short-at}
-use Rattle.passes.proofs.Laws.{Doing, doing-none, doing-more, doing-end, row-turns, game-kept}
+use Rattle.passes.proofs.Laws.{Doing, doing-none, doing-more, doing-pairs, row-is, game-kept}
 use borrow.Author.Needs.{needs}
 use Rattle.passes.proofs.meet_row.Statement.{statement}
 use Rattle.passes.proofs.meet_row.Tie as tie
 
 abbrev Inv-loop : tie.InvT-loop
-Inv-loop lanes dimension n k u vs words₀ floats₀ cost total₀ i₀ words floats total i = (i ≤ length vs) × Doing n k 1 (λ (j : ℕ). meet (between lanes dimension) n k (pair (u .0) (getD vs j 0))) words₀ floats₀ cost words floats total i
+Inv-loop lanes dimension n k rising u vs words₀ floats₀ cost total₀ i₀ words floats total i = (i ≤ length vs) × Doing n k 1 (λ (j : ℕ). through (meet (between lanes dimension) n k) (onePair rising (u .0) (getD vs j 0))) words₀ floats₀ cost words floats total i
 
 abbrev μ-loop : tie.MeasureT-loop
-μ-loop lanes dimension n k u vs words₀ floats₀ cost total₀ i₀ words floats total i = length vs - i
+μ-loop lanes dimension n k rising u vs words₀ floats₀ cost total₀ i₀ words floats total i = length vs - i
 
 loop-holds : tie.Need-loop-holds Inv-loop μ-loop
 loop-holds c = (search needs, doing-none _ _ 1 _ _ _ _)
 
-mul-t13 : tie.Need-mul-t13 Inv-loop μ-loop
-mul-t13 c = search needs
+mul-t14 : tie.Need-mul-t14 Inv-loop μ-loop
+mul-t14 c = search needs
 
-shared-slice-read-t16 : tie.Need-shared-slice-read-t16 Inv-loop μ-loop
-shared-slice-read-t16 c = search needs
+shared-slice-read-t17 : tie.Need-shared-slice-read-t17 Inv-loop μ-loop
+shared-slice-read-t17 c = search needs
 
-meet-requires : tie.Need-meet-requires Inv-loop μ-loop
-meet-requires c κs =
+meet-one-requires : tie.Need-meet-one-requires Inv-loop μ-loop
+meet-one-requires c κs =
     let at = c .before .before .before .before in
     let start = at .before .before .before .before .before in
     let p = start .pre in
@@ -47,7 +49,7 @@ loop-less c = search needs
 loop-again : tie.Need-loop-again Inv-loop μ-loop
 loop-again c =
     let at = c .before .before .before .before .before .before .before .before .before in
-    (search needs, doing-more _ _ 1 _ (at .loop .inv .1) (c .before .before .before .before .meet .ensures) (omega arith))
+    (search needs, doing-more _ _ 1 _ (at .loop .inv .1) (c .before .before .before .before .meet-one .ensures) (omega arith))
 
 same-length : tie.Need-same-length Inv-loop μ-loop
 same-length c = search needs
@@ -63,7 +65,7 @@ returns c =
     let past = c .loop-test .left in
     let vs = at .before .before .before .before .before .args .vs .now in
     let e : i ≡ length vs = omega arith in
-    doing-end _ _ 1 _ i (at .loop .inv .1) (λ m. rw e (row-turns _ _ vs m)) (omega arith)
+    doing-pairs 1 _ _ i (at .loop .inv .1) (rw e (row-is _ _ vs)) (omega arith)
 
 pub meet-row-spec : {M : Type 1} → statement M
 meet-row-spec =
@@ -72,9 +74,9 @@ meet-row-spec =
     Inv-loop
     μ-loop
     loop-holds
-    mul-t13
-    shared-slice-read-t16
-    meet-requires
+    mul-t14
+    shared-slice-read-t17
+    meet-one-requires
     add-i
     loop-less
     loop-again

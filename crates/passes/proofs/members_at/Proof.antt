@@ -3,10 +3,15 @@ use mathlib.Core.Path.{_≡_}
 use Prim.Native.Nat.{_+_, _-_}
 use native.Mathlib.Omega.{arith}
 use lib.ListN.{getD}
-use Rattle.passes.proofs.Contexts.{members-room, members-cut}
+use denote.Ref.{now}
+use Rattle.passes.proofs.Contexts.{ListIn, members-room, members-cut}
 use borrow.Author.Needs.{needs}
 use Rattle.passes.proofs.members_at.Statement.{statement}
 use Rattle.passes.proofs.members_at.Tie as tie
+
+-- the list at the place
+top : (start : tie.Start) → ListIn (now (start .args .context)) (start .args .at)
+top start = members-room (now (start .args .context)) (start .args .at) (start .pre .0)
 
 add-from : tie.Need-add-from
 add-from c = search needs
@@ -15,13 +20,13 @@ mul-to : tie.Need-mul-to
 mul-to c = search needs
 
 shared-slice-read-to : tie.Need-shared-slice-read-to
-shared-slice-read-to c = let m = members-room (c .before .args .context .now) (c .before .args .at) (c .before .pre .0) in let low = c .before .pre .1 in let room = m .0 in let few = m .1 in omega arith
+shared-slice-read-to c = let fits = top (c .before) in search needs
 
 cast-to : tie.Need-cast-to
-cast-to c = let m = members-room (c .before .args .context .now) (c .before .args .at) (c .before .pre .0) in let low = c .before .pre .1 in let room = m .0 in let few = m .1 in omega arith
+cast-to c = let fits = top (c .before) in search needs
 
 add-to : tie.Need-add-to
-add-to c = let m = members-room (c .before .args .context .now) (c .before .args .at) (c .before .pre .0) in let low = c .before .pre .1 in let room = m .0 in let few = m .1 in omega arith
+add-to c = let fits = top (c .before) in search needs
 
 mul-result : tie.Need-mul-result
 mul-result c = search needs
@@ -33,7 +38,7 @@ part-result-start : tie.Need-part-result-start
 part-result-start c = search needs
 
 part-result-end : tie.Need-part-result-end
-part-result-end c = let m = members-room (c .before .args .context .now) (c .before .args .at) (c .before .pre .0) in let low = c .before .pre .1 in let room = m .0 in let few = m .1 in omega arith
+part-result-end c = let fits = top (c .before) in search needs
 
 returns : tie.Need-returns
 returns c =

@@ -1,11 +1,11 @@
 -- `unvisits::unvisit_all` meets its contract. Assumes nothing.
-use mathlib.Core.Path.{_∙_}
-use mathlib.Core.Path.{_≡_}
-use Prim.Native.Nat.{_+_, _-_, _*_, _≤_}
+use mathlib.Core.Path.{_≡_, _∙_}
+use Prim.Native.Nat.{ℕ, _+_, _-_, _*_, _≤_, _<_}
 use native.Mathlib.Omega.{arith}
 use lib.ListN.{getD}
+use denote.Ref.{now}
 use Rattle.visits.specs.Marks.{Marked}
-use Rattle.passes.proofs.Contexts.{members-room, members-cut}
+use Rattle.passes.proofs.Contexts.{ListIn, members-room, members-cut}
 use Rattle.unvisits.specs.Unvisits.{unvisitEach}
 use Rattle.unvisits.proofs.Laws.{each-none, each-more, each-to}
 use borrow.Author.Needs.{needs}
@@ -17,6 +17,10 @@ Inv-loop words₀ base n contexts i₀ words i = (i ≤ n) × Marked base n (unv
 
 abbrev μ-loop : tie.MeasureT-loop
 μ-loop words₀ base n contexts i₀ words i = n - i
+
+-- the list of the node whose turn it is
+top : (start : tie.Start Inv-loop μ-loop) (i : ℕ) → i < start .args .n → ListIn (now (start .args .contexts)) (260 * i)
+top start i below = members-room (now (start .args .contexts)) (260 * i) (start .pre .2 .each i below)
 
 loop-holds : tie.Need-loop-holds Inv-loop μ-loop
 loop-holds c = (search needs, each-none _ _ _ _)
@@ -34,28 +38,10 @@ shared-slice-read-to : tie.Need-shared-slice-read-to Inv-loop μ-loop
 shared-slice-read-to c = search needs
 
 cast-to : tie.Need-cast-to Inv-loop μ-loop
-cast-to c =
-    let at = c .before .before in
-    let start = at .before .before .before in
-    let i = at .loop .i in
-    let m = members-room (start .args .contexts .now) (260 * i) (start .pre .2 .each i (c .before .loop-test .taken)) in
-    let room = m .0 in
-    let few = m .1 in
-    let low = start .pre .0 in
-    let below = c .before .loop-test .taken in
-    omega arith
+cast-to c = let at = c .before .before in let fits = top (at .before .before .before) (at .loop .i) (c .before .loop-test .taken) in search needs
 
 add-to : tie.Need-add-to Inv-loop μ-loop
-add-to c =
-    let at = c .before .before in
-    let start = at .before .before .before in
-    let i = at .loop .i in
-    let m = members-room (start .args .contexts .now) (260 * i) (start .pre .2 .each i (c .before .loop-test .taken)) in
-    let room = m .0 in
-    let few = m .1 in
-    let low = start .pre .0 in
-    let below = c .before .loop-test .taken in
-    omega arith
+add-to c = let at = c .before .before in let fits = top (at .before .before .before) (at .loop .i) (c .before .loop-test .taken) in search needs
 
 cast-t12 : tie.Need-cast-t12 Inv-loop μ-loop
 cast-t12 c = search needs
@@ -70,16 +56,7 @@ part-unvisit-row-start : tie.Need-part-unvisit-row-start Inv-loop μ-loop
 part-unvisit-row-start c = search needs
 
 part-unvisit-row-end : tie.Need-part-unvisit-row-end Inv-loop μ-loop
-part-unvisit-row-end c =
-    let at = c .before .before .before in
-    let start = at .before .before .before in
-    let i = at .loop .i in
-    let m = members-room (start .args .contexts .now) (260 * i) (start .pre .2 .each i (c .before .before .loop-test .taken)) in
-    let room = m .0 in
-    let few = m .1 in
-    let low = start .pre .0 in
-    let below = c .before .before .loop-test .taken in
-    omega arith
+part-unvisit-row-end c = let at = c .before .before .before in let fits = top (at .before .before .before) (at .loop .i) (c .before .before .loop-test .taken) in search needs
 
 unvisit-row-requires : tie.Need-unvisit-row-requires Inv-loop μ-loop
 unvisit-row-requires c κs =
