@@ -10,10 +10,10 @@ use lib.Seq.{set-at, take-at, take-all, length-take-le}
 use borrow.Rule.Slice.PartMut.{midOf, putMid}
 use Rattle.rules.specs.Loops.{each}
 use Rattle.rules.specs.Places.{padded}
-use Rattle.rules.specs.Descent.{Context, drawn, drawsFrom, beginContext}
+use Rattle.rules.specs.Descent.{drawn, drawsFrom, beginContext}
 use Rattle.rules.specs.DescentPlaces.{memberWords, contextWords}
 use Rattle.buffers.proofs.Places.{length-area, put-length}
-use Rattle.encoded.proofs.Rows.{length-padded}
+use Rattle.members.proofs.Laws.{length-memberWords, words-append}
 use Rattle.visits.proofs.Flags.{length-ones}
 
 -- ---- a list of draws
@@ -75,10 +75,6 @@ put-next {A} a w xs ys h e =
 
 -- ---- the context of a node
 
-length-memberWords : (xs : List ℕ) → length xs ≤ 64 → length (memberWords xs) ≡ 65
-unfolding memberWords
-length-memberWords xs h = ap suc (length-padded 64 0 xs h)
-
 no-members : {m : ℕ} {us : List ℕ} → us ≡ replicate m 0 → m ≡ 65 → us ≡ memberWords []
 unfolding memberWords padded
 no-members e f = e ∙ rw f
@@ -129,22 +125,6 @@ drawn-at n s i draws h few small fits =
 
 -- ---- the contexts of all nodes
 
-words-more : (cs : List Context) (c : Context) → contextWords (cs ++ (c ∷ [])) ≡ contextWords cs ++ contextWords (c ∷ [])
-unfolding contextWords
-words-more [] c = refl
-words-more (x ∷ cs) c =
-    let a = memberWords (x .new) in
-    let b = memberWords (x .old) in
-    let d = memberWords (x .reversed-new) in
-    let e = memberWords (x .reversed-old) in
-    let w = contextWords (c ∷ []) in
-    ap (λ (l : List ℕ). a ++ (b ++ (d ++ (e ++ l)))) (words-more cs c)
-    ∙ sym
-    (append-assoc a (b ++ (d ++ (e ++ contextWords cs))) w
-    ∙ ap (λ (l : List ℕ). a ++ l)
-    (append-assoc b (d ++ (e ++ contextWords cs)) w
-    ∙ ap (λ (l : List ℕ). b ++ l) (append-assoc d (e ++ contextWords cs) w ∙ ap (λ (l : List ℕ). d ++ l) (append-assoc e (contextWords cs) w))))
-
 pub record Beginning (draws : List ℕ) (n s : ℕ) (us : List ℕ) (i : ℕ) : Type 0 where
   pub within : i ≤ n
   pub long : length us ≡ 260 * n
@@ -173,7 +153,7 @@ module _ {draws : List ℕ} {n s : ℕ} {us : List ℕ} {i : ℕ} (inv : Beginni
             ∙ put-next (260 * i) 260 us ys inside yl
             ∙ ap (λ (r : List ℕ). r ++ ys) (inv .list)
             ∙ ap (λ (r : List ℕ). contextWords cs ++ r) f
-            ∙ sym (rw add-one (words-more cs (beginContext draws n s i)));
+            ∙ sym (rw add-one (words-append cs (beginContext draws n s i ∷ [])));
       })
 
   pub beginning-end : n ≤ i → us ≡ contextWords (each (λ (j : ℕ). beginContext draws n s j ∷ []) n)

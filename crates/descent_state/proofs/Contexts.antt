@@ -1,7 +1,7 @@
 -- The contexts of all nodes: four lists of 65 words each. Assumes nothing.
 use mathlib.Core.Path.{_≡_, refl, sym, ap, _∙_}
 use mathlib.Core.Bool.{Bool, true, false, _&&_}
-use mathlib.Core.List.{List, [], _∷_, _++_, append-assoc, append-nil}
+use mathlib.Core.List.{List, [], _∷_, _++_, append-nil}
 use Prim.Native.Nat.{ℕ, zero, suc, _+_, _-_, _*_, _≤_, _<_}
 use native.Mathlib.Omega.{arith}
 use lib.ListN.{length, take, drop, length-append, length-take, length-drop}
@@ -12,6 +12,7 @@ use Rattle.rules.specs.Places.{sameWords}
 use Rattle.rules.specs.DescentPlaces.{memberWords, contextWords, membersIn, contextIn, membersFormed, contextsFormed}
 use Rattle.encoded.proofs.Rows.{length-padded}
 use Rattle.encoded.proofs.Same.{same-words-append}
+use Rattle.members.proofs.Laws.{words-append}
 use Rattle.zeros.specs.Zeros.{allBelow}
 use Rattle.zeros.proofs.Laws.{all-none, all-turn, all-not}
 use Rattle.descent_state.specs.State.{memberTest}
@@ -111,22 +112,6 @@ module _ (n : ℕ) where
       (sym (and-assoc (test xs && test (drop 65 xs)) (test (drop 130 xs)) (test (drop 195 xs)) ∙ and-assoc (test xs) (test (drop 65 xs)) (test (drop 130 xs) && test (drop 195 xs))))
 
 -- ---- those of all nodes
-
-words-append : (xs ys : List Context) → contextWords (xs ++ ys) ≡ contextWords xs ++ contextWords ys
-unfolding contextWords
-words-append [] ys = refl
-words-append (c ∷ xs) ys =
-    let a = memberWords (c .new) in
-    let b = memberWords (c .old) in
-    let d = memberWords (c .reversed-new) in
-    let e = memberWords (c .reversed-old) in
-    ap (λ (l : List ℕ). a ++ (b ++ (d ++ (e ++ l)))) (words-append xs ys)
-    ∙ sym
-    (append-assoc a (b ++ (d ++ (e ++ contextWords xs))) (contextWords ys)
-    ∙ ap (λ (l : List ℕ). a ++ l)
-    (append-assoc b (d ++ (e ++ contextWords xs)) (contextWords ys)
-    ∙ ap (λ (l : List ℕ). b ++ l)
-    (append-assoc d (e ++ contextWords xs) (contextWords ys) ∙ ap (λ (l : List ℕ). d ++ l) (append-assoc e (contextWords xs) (contextWords ys)))))
 
 formed-append : (n : ℕ) (xs ys : List Context) → contextsFormed n (xs ++ ys) ≡ (contextsFormed n xs && contextsFormed n ys)
 unfolding contextsFormed

@@ -18,6 +18,7 @@ use Rattle.bits.specs.Bits.{Words}
 use Rattle.lists.proofs.Slices.{nodesOf-entries, distancesOf-entries}
 use Rattle.encoded.proofs.Same.{same-words, same-floats, same-words-append}
 use Rattle.zeros.specs.Zeros.{allBelow}
+use Rattle.members.proofs.Laws.{area-in}
 use Rattle.visits.specs.Marks.{marks}
 use Rattle.descent_state.specs.State.{Sized, memberTest}
 use Rattle.descent_state.proofs.Contexts.{contexts, listTest, length-contexts, contexts-are}
@@ -78,13 +79,6 @@ module _ (n k : ℕ) (us : List ℕ) (fs : List Float) (h : n * k ≤ length us)
   pub floats-again : listFloats (listsIn n k us fs) ≡ take (n * k) fs
   unfolding listsIn
   floats-again = floats-some n (omega arith)
-
--- a part of a part
-area-in : (a m c : ℕ) (xs : List ℕ) → a + m ≤ c → take m (drop a (take c xs)) ≡ take m (drop a xs)
-area-in zero m c xs l = take-take m c xs (omega arith)
-area-in (suc a) m zero xs l = absurd (omega arith)
-area-in (suc a) m (suc c) [] l = refl
-area-in (suc a) m (suc c) (x ∷ xs) l = area-in a m c xs (omega arith)
 
 -- ---- the three parts
 

@@ -1,6 +1,6 @@
 -- A context list in its 65 words. Assumes nothing.
 use mathlib.Core.Path.{_≡_, refl, sym, ap, _∙_}
-use mathlib.Core.List.{List, [], _∷_, _++_, append-nil}
+use mathlib.Core.List.{List, [], _∷_, _++_, append-assoc, append-nil}
 use Prim.Native.Nat.{ℕ, zero, suc, _+_, _-_, _≤_, _<_}
 use native.Mathlib.Omega.{arith}
 use lib.ListN.{length, take, drop, set, replicate, length-replicate, length-append, length-set, length-drop}
@@ -8,7 +8,8 @@ use lib.Seq.{take-length, take-take, length-take-le}
 use borrow.Rule.Slice.PartMut.{putMid, same-len-mid}
 use Rattle.rules.specs.Loops.{turns, each, over}
 use Rattle.rules.specs.Places.{padded}
-use Rattle.rules.specs.DescentPlaces.{memberWords, membersIn}
+use Rattle.rules.specs.Descent.{Context}
+use Rattle.rules.specs.DescentPlaces.{memberWords, contextWords, membersIn}
 
 pub length-memberWords : (xs : List ℕ) → length xs ≤ 64 → length (memberWords xs) ≡ 65
 unfolding memberWords padded
@@ -70,6 +71,24 @@ area-in zero m c xs l = take-take m c xs (omega arith)
 area-in (suc a) m zero xs l = absurd (omega arith)
 area-in (suc a) m (suc c) [] l = refl
 area-in (suc a) m (suc c) (x ∷ xs) l = area-in a m c xs (omega arith)
+
+-- ---- the contexts of all nodes as words
+
+pub words-append : (xs ys : List Context) → contextWords (xs ++ ys) ≡ contextWords xs ++ contextWords ys
+unfolding contextWords
+words-append [] ys = refl
+words-append (c ∷ xs) ys =
+    let a = memberWords (c .new) in
+    let b = memberWords (c .old) in
+    let d = memberWords (c .reversed-new) in
+    let e = memberWords (c .reversed-old) in
+    ap (λ (l : List ℕ). a ++ (b ++ (d ++ (e ++ l)))) (words-append xs ys)
+    ∙ sym
+    (append-assoc a (b ++ (d ++ (e ++ contextWords xs))) (contextWords ys)
+    ∙ ap (λ (l : List ℕ). a ++ l)
+    (append-assoc b (d ++ (e ++ contextWords xs)) (contextWords ys)
+    ∙ ap (λ (l : List ℕ). b ++ l)
+    (append-assoc d (e ++ contextWords xs) (contextWords ys) ∙ ap (λ (l : List ℕ). d ++ l) (append-assoc e (contextWords xs) (contextWords ys)))))
 
 -- ---- loops over n nodes that do the same for each node
 
