@@ -24,11 +24,13 @@ pub members-short : {n : ℕ} {us : List ℕ} → Members n us → Short n (memb
 members-short {n} {us} h = record { below = h .below; few = length-members us }
 
 -- the part of the words that the code cuts out
-pub members-cut : {n : ℕ} (us : List ℕ) (at : ℕ) {w : ℕ} → Members n (drop at us) → w ≡ getD us at 0 → MembersOf n (drop at us) (take w (drop (at + 1) us))
+pub members-cut : {n : ℕ} (us : List ℕ) (at : ℕ) → Members n (drop at us) → MembersOf n (drop at us) (take (at + 1 + getD us at 0 - (at + 1)) (drop (at + 1) us))
 unfolding membersIn
-members-cut {n} us at {w} h e =
+members-cut us at h =
+    let w = at + 1 + getD us at 0 - (at + 1) in
     let none : at + 0 ≡ at = omega arith in
-    let len : getD (drop at us) 0 0 ≡ w = getD-drop at us 0 0 ∙ ap (λ (i : ℕ). getD us i 0) none ∙ sym e in
+    let cut : getD us at 0 ≡ w = omega arith in
+    let len : getD (drop at us) 0 0 ≡ w = getD-drop at us 0 0 ∙ ap (λ (i : ℕ). getD us i 0) none ∙ cut in
     let few = h .few in
     let same : take w (drop (at + 1) us) ≡ membersIn (drop at us) =
     sym (take-take w 64 (drop (at + 1) us) (omega arith)) ∙ ap (λ (l : List ℕ). take w (take 64 l)) (sym (drop-drop 1 at us)) ∙ ap (λ (i : ℕ). take i (take 64 (drop 1 (drop at us)))) (sym len) in

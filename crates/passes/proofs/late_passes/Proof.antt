@@ -16,7 +16,7 @@ cross-requires-2 c κs =
     let d = first .cross .ensures in
     let most = d .most in
     let low = p .5 in
-    (game-kept (p .0) (d .words-long) (d .floats-long), p .1, p .4, omega arith)
+    (game-kept (p .0) (d .words-long) (d .floats-long), search needs, search needs, omega arith)
 
 cross-requires-3 : tie.Need-cross-requires-3
 cross-requires-3 c κs =
@@ -26,7 +26,7 @@ cross-requires-3 c κs =
     let d = does-then (first .cross .ensures) (second .cross2 .ensures) in
     let most = d .most in
     let low = p .5 in
-    (game-kept (p .0) (d .words-long) (d .floats-long), p .1, p .3, omega arith)
+    (game-kept (p .0) (d .words-long) (d .floats-long), search needs, search needs, omega arith)
 
 cross-requires-4 : tie.Need-cross-requires-4
 cross-requires-4 c κs =
@@ -37,7 +37,7 @@ cross-requires-4 c κs =
     let d = does-then (does-then (first .cross .ensures) (second .cross2 .ensures)) (third .cross3 .ensures) in
     let most = d .most in
     let low = p .5 in
-    (game-kept (p .0) (d .words-long) (d .floats-long), p .2, p .3, omega arith)
+    (game-kept (p .0) (d .words-long) (d .floats-long), search needs, search needs, omega arith)
 
 same-length : tie.Need-same-length
 same-length c = search needs

@@ -1,8 +1,4 @@
 -- `passes::members_at` meets its contract. Assumes nothing.
-use mathlib.Core.Path.{_≡_}
-use Prim.Native.Nat.{_+_, _-_}
-use native.Mathlib.Omega.{arith}
-use lib.ListN.{getD}
 use denote.Ref.{now}
 use Rattle.passes.proofs.Contexts.{ListIn, members-room, members-cut}
 use borrow.Author.Needs.{needs}
@@ -41,12 +37,7 @@ part-result-end : tie.Need-part-result-end
 part-result-end c = let fits = top (c .before) in search needs
 
 returns : tie.Need-returns
-returns c =
-    let start = c .before .before in
-    let at = start .args .at in
-    let len = getD (start .args .context .now) at 0 in
-    let e : at + 1 + len - (at + 1) ≡ len = omega arith in
-    members-cut (start .args .context .now) at (start .pre .0) e
+returns c = let start = c .before .before in members-cut (now (start .args .context)) (start .args .at) (start .pre .0)
 
 pub members-at-spec : {M : Type 1} → statement M
 members-at-spec =

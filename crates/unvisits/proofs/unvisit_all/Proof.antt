@@ -1,8 +1,7 @@
 -- `unvisits::unvisit_all` meets its contract. Assumes nothing.
 use mathlib.Core.Path.{_≡_, _∙_}
-use Prim.Native.Nat.{ℕ, _+_, _-_, _*_, _≤_, _<_}
+use Prim.Native.Nat.{ℕ, _-_, _*_, _≤_, _<_}
 use native.Mathlib.Omega.{arith}
-use lib.ListN.{getD}
 use denote.Ref.{now}
 use Rattle.visits.specs.Marks.{Marked}
 use Rattle.passes.proofs.Contexts.{ListIn, members-room, members-cut}
@@ -65,10 +64,8 @@ unvisit-row-requires c κs =
     let p = start .pre in
     let i = at .loop .i in
     let xs = start .args .contexts .now in
-    let len = getD xs (260 * i) 0 in
-    let e : 260 * i + 1 + len - (260 * i + 1) ≡ len = omega arith in
     let below = c .before .before .before .loop-test .taken in
-    let m = members-cut xs (260 * i) (p .2 .each i below) e in
+    let m = members-cut xs (260 * i) (p .2 .each i below) in
     (p .0, below, at .loop .inv .1 .long ∙ p .1, m .short .below)
 
 add-i : tie.Need-add-i Inv-loop μ-loop
@@ -84,10 +81,8 @@ loop-again c =
     let p = start .pre in
     let i = at .loop .i in
     let xs = start .args .contexts .now in
-    let len = getD xs (260 * i) 0 in
-    let e : 260 * i + 1 + len - (260 * i + 1) ≡ len = omega arith in
     let below = c .before .before .before .before .before .before .loop-test .taken in
-    let m = members-cut xs (260 * i) (p .2 .each i below) e in
+    let m = members-cut xs (260 * i) (p .2 .each i below) in
     (omega arith, each-more _ _ xs i (at .loop .inv .1) (m .list) (c .before .before .unvisit-row .ensures))
 
 same-length : tie.Need-same-length Inv-loop μ-loop
