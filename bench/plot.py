@@ -8,7 +8,7 @@ import sys
 
 WIDTH, HEIGHT, LEFT, TOP, BOTTOM = 980, 460, 60, 40, 110
 COLOURS = {"4": "#4477aa", "16": "#228833", "64": "#cc6677"}
-LEAST, MOST = 0.1, 10.0
+LEAST, MOST = 0.5, 20.0
 FLOORS = {("build", 256): 1.5, ("build", 1024): 2.0, ("build", 4096): 3.0, ("search", None): 1.0, ("iterate", None): 1.5}
 
 
@@ -40,7 +40,7 @@ def dot(x, row):
 
 
 def axis(out):
-    for ratio in (0.1, 0.2, 0.5, 1, 2, 5, 10):
+    for ratio in (0.5, 1, 2, 5, 10, 20):
         y = height(ratio)
         colour = "#000" if ratio == 1 else "#ddd"
         out.append(f'<line x1="{LEFT}" y1="{y:.1f}" x2="{WIDTH - 10}" y2="{y:.1f}" stroke="{colour}"/>')
