@@ -1,0 +1,2 @@
+-- `Distances`: what the facts ask of a distance.
+pub mod Distances

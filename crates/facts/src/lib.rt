@@ -1,0 +1,1 @@
+// What a user would hope for and the rulebook implies, stated in specs/ and proved in proofs/ over any symmetric fit distance. This crate has no code.
