@@ -1,6 +1,7 @@
 //! A descent: its beginning and its iterations.
+use crate::lent::Both;
 use crate::refusal::{told, Call};
-use crate::{lengths, raw, Lists, Points, Refusal, Scratch};
+use crate::{lengths, lent, Lists, Points, Refusal, Scratch};
 
 /// What one iteration answers: its cost, and the total of new.
 #[derive(Clone, Copy, Debug, PartialEq, Eq)]
@@ -44,48 +45,12 @@ impl<'p> Descent<'p> {
     ) -> Result<Descent<'p>, Refusal> {
         let n = points.n();
         let passes = lengths::taught(n, k);
-        let mut descent = Descent {
-            points,
-            k,
-            s,
-            words: vec![
-                0;
-                if passes {
-                    lengths::descent_words(n, k)
-                } else {
-                    0
-                }
-            ],
-            floats: vec![0.0; if passes { lengths::lists(n, k) } else { 0 }],
-            scratch: Scratch::new(),
-        };
-        let (words, floats) = descent.scratch.of(if passes {
-            lengths::taught_scratch(n)
-        } else {
-            0
-        });
-        // SAFETY: every pointer and count is a slice's, and the mutable ones are of buffers of their own.
-        let said = unsafe {
-            raw::spoonmeadow_begin(
-                points.dimension(),
-                n,
-                points.lanes().as_ptr(),
-                points.lanes().len(),
-                k,
-                s,
-                draws.as_ptr(),
-                draws.len(),
-                descent.words.as_mut_ptr(),
-                descent.words.len(),
-                descent.floats.as_mut_ptr(),
-                descent.floats.len(),
-                words.as_mut_ptr(),
-                words.len(),
-                floats.as_mut_ptr(),
-                floats.len(),
-            )
-        };
-        told(Call::Begin, said)?;
+        let words = vec![0; lengths::made(passes, lengths::descent_words(n, k))];
+        let floats = vec![0.0; lengths::made(passes, lengths::lists(n, k))];
+        let mut descent = Descent::with_state(points, k, s, words, floats);
+        let (state, scratch) = descent.lent();
+        let said = lent::begin(points, (k, s), draws, state, scratch);
+        told(Call::Begin, said.refusal, said.first, said.second)?;
         Ok(descent)
     }
 
@@ -121,44 +86,21 @@ impl<'p> Descent<'p> {
     /// # Ok::<(), spoonmeadow::Refusal>(())
     /// ```
     pub fn iterate(&mut self, draws: &[u32]) -> Result<Iterated, Refusal> {
-        let n = self.points.n();
-        let passes = lengths::taught(n, self.k);
-        let (words, floats) = self.scratch.of(if passes {
-            lengths::taught_scratch(n)
-        } else {
-            0
-        });
-        // SAFETY: every pointer and count is a slice's, and the mutable ones are of buffers of their own.
-        let answer = unsafe {
-            raw::spoonmeadow_iterate(
-                self.points.dimension(),
-                n,
-                self.points.lanes().as_ptr(),
-                self.points.lanes().len(),
-                self.k,
-                self.s,
-                draws.as_ptr(),
-                draws.len(),
-                self.words.as_mut_ptr(),
-                self.words.len(),
-                self.floats.as_mut_ptr(),
-                self.floats.len(),
-                words.as_mut_ptr(),
-                words.len(),
-                floats.as_mut_ptr(),
-                floats.len(),
-            )
-        };
-        let said = raw::Said {
-            refusal: answer.refusal,
-            first: answer.first,
-            second: answer.second,
-        };
-        told(Call::Iterate, said)?;
+        let (points, sizes) = (self.points, (self.k, self.s));
+        let (state, scratch) = self.lent();
+        let answer = lent::iterate(points, sizes, draws, state, scratch);
+        told(Call::Iterate, answer.refusal, answer.first, answer.second)?;
         Ok(Iterated {
             cost: answer.cost,
             new: answer.total,
         })
+    }
+
+    /// The state, and scratch as long as its calls ask for.
+    fn lent(&mut self) -> (Both<'_>, Both<'_>) {
+        let n = self.points.n();
+        let room = lengths::made(lengths::taught(n, self.k), lengths::taught_scratch(n));
+        ((&mut self.words, &mut self.floats), self.scratch.of(room))
     }
 
     /// The lists as they are.

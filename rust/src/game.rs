@@ -1,14 +1,15 @@
 //! A taught game: build and search.
+use crate::lent::{self, Looked};
 use crate::refusal::{told, Call};
-use crate::{lengths, raw, Neighbor, Points, Refusal, Scratch};
+use crate::{lengths, Neighbor, Points, Refusal, Scratch};
 
 /// The parameters of a build. Each setter takes them and hands them back changed.
 #[derive(Clone, Copy, Debug, PartialEq)]
 pub struct Params {
-    init_k: usize,
-    index_size: usize,
-    neighbor_neighbor_size: usize,
-    threshold: f32,
+    pub(crate) init_k: usize,
+    pub(crate) index_size: usize,
+    pub(crate) neighbor_neighbor_size: usize,
+    pub(crate) threshold: f32,
 }
 
 impl Default for Params {
@@ -76,40 +77,13 @@ impl Game {
     /// # Ok::<(), spoonmeadow::Refusal>(())
     /// ```
     pub fn teach(points: Points, params: Params) -> Result<Game, Refusal> {
-        let n = points.n();
-        let mut graph = Vec::new();
-        let mut scratch = Scratch::new();
-        let mut room = 0;
-        if lengths::game(n, params.init_k, params.index_size) {
-            graph = vec![0; lengths::graph(n, params.index_size)];
-            room = lengths::build_scratch(n, params.init_k, params.index_size);
-        }
-        let (words, floats) = scratch.of(room);
-        // SAFETY: every pointer and count is a slice's, and the mutable ones are of buffers of their own.
-        let said = unsafe {
-            raw::spoonmeadow_build(
-                params.init_k,
-                params.index_size,
-                params.neighbor_neighbor_size,
-                params.threshold,
-                points.dimension(),
-                n,
-                points.lanes().as_ptr(),
-                points.lanes().len(),
-                graph.as_mut_ptr(),
-                graph.len(),
-                words.as_mut_ptr(),
-                words.len(),
-                floats.as_mut_ptr(),
-                floats.len(),
-            )
-        };
-        told(Call::Build, said)?;
-        Ok(Game {
-            points,
-            index_size: params.index_size,
-            graph,
-        })
+        let (n, init_k, index_size) = (points.n(), params.init_k, params.index_size);
+        let passes = lengths::game(n, init_k, index_size);
+        let mut graph = vec![0; lengths::made(passes, lengths::graph(n, index_size))];
+        let room = lengths::made(passes, lengths::build_scratch(n, init_k, index_size));
+        let said = lent::build(&points, params, &mut graph, Scratch::new().of(room));
+        told(Call::Build, said.refusal, said.first, said.second)?;
+        Ok(Game::with_graph(points, index_size, graph))
     }
 
     /// A game over a graph that was kept. Any contents are legal: a row is read up to its first value of n or more.
@@ -151,44 +125,18 @@ impl Game {
     ) -> Result<Found, Refusal> {
         let n = self.points.n();
         let passes = lengths::game(n, k, self.index_size);
-        let (words, floats) = scratch.of(if passes {
-            lengths::search_scratch(n)
-        } else {
-            0
-        });
-        let mut nodes = vec![0; if passes { k } else { 0 }];
+        let mut nodes = vec![0; lengths::made(passes, k)];
         let mut bits = nodes.clone();
-        // SAFETY: every pointer and count is a slice's, and the mutable ones are of buffers of their own.
-        let found = unsafe {
-            raw::spoonmeadow_search(
-                self.points.dimension(),
-                n,
-                self.points.lanes().as_ptr(),
-                self.points.lanes().len(),
-                self.graph.as_ptr(),
-                self.graph.len(),
-                self.index_size,
-                roots.as_ptr(),
-                roots.len(),
-                query.as_ptr(),
-                query.len(),
-                k,
-                nodes.as_mut_ptr(),
-                nodes.len(),
-                bits.as_mut_ptr(),
-                bits.len(),
-                words.as_mut_ptr(),
-                words.len(),
-                floats.as_mut_ptr(),
-                floats.len(),
-            )
+        let looked = Looked {
+            graph: &self.graph,
+            index_size: self.index_size,
+            roots,
+            query,
+            k,
         };
-        let said = raw::Said {
-            refusal: found.refusal,
-            first: found.first,
-            second: found.second,
-        };
-        told(Call::Search, said)?;
+        let lent = scratch.of(lengths::made(passes, lengths::search_scratch(n)));
+        let found = lent::search(&self.points, &looked, &mut nodes, &mut bits, lent);
+        told(Call::Search, found.refusal, found.first, found.second)?;
         let pairs = nodes.iter().zip(&bits).take(found.m);
         Ok(Found {
             neighbors: pairs

@@ -74,8 +74,7 @@ pub const fn relay_floats(n: usize, k: usize) -> usize {
     n.saturating_mul(k.saturating_add(64)).saturating_add(64)
 }
 
-/// Whether a descent or a relay of these numbers may pass the table: only then are its buffers made. Where it may not, empty ones are lent, and
-/// the library refuses the call for its numbers, which it judges before any length.
+/// Whether a descent or a relay of these numbers may pass the table: only then are its buffers made ([`made`]).
 pub(crate) const fn taught(n: usize, k: usize) -> bool {
     n <= MOST_NODES_TAUGHT && k <= MOST_K
 }
@@ -83,4 +82,14 @@ pub(crate) const fn taught(n: usize, k: usize) -> bool {
 /// The same for a game.
 pub(crate) const fn game(n: usize, init_k: usize, index_size: usize) -> bool {
     n <= MOST_NODES && init_k <= MOST_K && index_size <= MOST_K
+}
+
+/// The length of a buffer that is made: where the numbers cannot pass the table an empty one is lent, and the library refuses the call for its
+/// numbers, which it judges before any length.
+pub(crate) const fn made(passes: bool, length: usize) -> usize {
+    if passes {
+        length
+    } else {
+        0
+    }
 }

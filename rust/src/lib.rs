@@ -19,13 +19,14 @@
 //! ```
 //!
 //! What is proved is the library: for all inputs each call meets its contract, does nothing undefined and ends. This crate is not proved; it is thin,
-//! and its `unsafe` is one call in each function, with pointers and counts of slices.
+//! and its `unsafe` is one call in each function of [`lent`], with pointers and counts of slices.
 #![deny(missing_docs)]
 #![deny(unsafe_op_in_unsafe_fn)]
 
 mod descent;
 mod game;
 pub mod lengths;
+pub mod lent;
 mod points;
 #[allow(missing_docs)]
 pub mod raw;

@@ -6,7 +6,7 @@
 
 /// What every call but search and iterate says: a refusal with its places, or 0, 0, 0.
 #[repr(C)]
-#[derive(Clone, Copy, Debug, PartialEq, Eq)]
+#[derive(Clone, Copy, Debug, Default, PartialEq, Eq)]
 pub struct Said {
     pub refusal: usize,
     pub first: usize,
@@ -15,7 +15,7 @@ pub struct Said {
 
 /// What a search says: a refusal with its places, or m results and the count of nodes taken from the queue.
 #[repr(C)]
-#[derive(Clone, Copy, Debug, PartialEq, Eq)]
+#[derive(Clone, Copy, Debug, Default, PartialEq, Eq)]
 pub struct Found {
     pub refusal: usize,
     pub first: usize,
@@ -26,7 +26,7 @@ pub struct Found {
 
 /// What one iteration of a descent says: a refusal with its places, or its cost and the total of new.
 #[repr(C)]
-#[derive(Clone, Copy, Debug, PartialEq, Eq)]
+#[derive(Clone, Copy, Debug, Default, PartialEq, Eq)]
 pub struct Iterated {
     pub refusal: usize,
     pub first: usize,

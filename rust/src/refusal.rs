@@ -1,5 +1,4 @@
 //! Refusals: the numbers of the library's table, with their places and in words.
-use crate::raw;
 use std::fmt;
 
 /// Which call was refused: rows 10 and 13 read differently in different calls.
@@ -49,16 +48,16 @@ impl Refusal {
     }
 }
 
-/// What a call said, as a result.
-pub(crate) fn told(call: Call, said: raw::Said) -> Result<(), Refusal> {
-    if said.refusal == 0 {
+/// A refusal's number and places that a call said, as a result.
+pub(crate) fn told(call: Call, number: usize, first: usize, second: usize) -> Result<(), Refusal> {
+    if number == 0 {
         return Ok(());
     }
     Err(Refusal {
         call,
-        number: said.refusal,
-        first: said.first,
-        second: said.second,
+        number,
+        first,
+        second,
     })
 }
 

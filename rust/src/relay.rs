@@ -1,6 +1,6 @@
 //! A relay: candidate pairs offered to lists step by step, from any number of threads in any order.
 use crate::refusal::{told, Call};
-use crate::{lengths, raw, Lists, Points, Refusal, Scratch};
+use crate::{lengths, lent, Lists, Points, Refusal, Scratch};
 use std::sync::atomic::{AtomicUsize, Ordering};
 use std::sync::{Mutex, MutexGuard, PoisonError};
 
@@ -53,54 +53,13 @@ impl Relay {
             n,
             k,
             jobs: jobs.len(),
-            words: vec![
-                0;
-                if passes {
-                    lengths::relay_words(n, k)
-                } else {
-                    0
-                }
-            ],
-            floats: vec![
-                0.0;
-                if passes {
-                    lengths::relay_floats(n, k)
-                } else {
-                    0
-                }
-            ],
+            words: vec![0; lengths::made(passes, lengths::relay_words(n, k))],
+            floats: vec![0.0; lengths::made(passes, lengths::relay_floats(n, k))],
         };
-        let mut scratch = Scratch::new();
-        let (words, floats) = scratch.of(if passes {
-            lengths::taught_scratch(n)
-        } else {
-            0
-        });
-        // SAFETY: every pointer and count is a slice's, and the mutable ones are of buffers of their own.
-        let said = unsafe {
-            raw::spoonmeadow_open(
-                points.dimension(),
-                n,
-                points.lanes().as_ptr(),
-                points.lanes().len(),
-                k,
-                lists.nodes().as_ptr(),
-                lists.nodes().len(),
-                lists.distances().as_ptr(),
-                lists.distances().len(),
-                pairs.as_ptr(),
-                pairs.len(),
-                relay.words.as_mut_ptr(),
-                relay.words.len(),
-                relay.floats.as_mut_ptr(),
-                relay.floats.len(),
-                words.as_mut_ptr(),
-                words.len(),
-                floats.as_mut_ptr(),
-                floats.len(),
-            )
-        };
-        told(Call::Open, said)?;
+        let state = (&mut relay.words[..], &mut relay.floats[..]);
+        let room = lengths::made(passes, lengths::taught_scratch(n));
+        let said = lent::open(points, lists, &pairs, state, Scratch::new().of(room));
+        told(Call::Open, said.refusal, said.first, said.second)?;
         Ok(relay)
     }
 
@@ -111,19 +70,9 @@ impl Relay {
 
     /// Takes a job's next step. Refusal 13: the job is absent or finished, and nothing has changed.
     pub fn step(&mut self, job: usize) -> Result<(), Refusal> {
-        // SAFETY: every pointer and count is a slice's, and the mutable ones are of buffers of their own.
-        let said = unsafe {
-            raw::spoonmeadow_move_job(
-                self.n,
-                self.k,
-                job,
-                self.words.as_mut_ptr(),
-                self.words.len(),
-                self.floats.as_mut_ptr(),
-                self.floats.len(),
-            )
-        };
-        told(Call::Move, said)
+        let state = (&mut self.words[..], &mut self.floats[..]);
+        let said = lent::move_job((self.n, self.k), job, state);
+        told(Call::Move, said.refusal, said.first, said.second)
     }
 
     /// The lists and the reports, when all jobs are finished. Refusal 13 names the lowest unfinished job. The relay stays as it is.
@@ -132,24 +81,10 @@ impl Relay {
         let mut nodes = vec![0; length];
         let mut distances = vec![0.0; length];
         let mut reports = [0; lengths::REPORTS];
-        // SAFETY: every pointer and count is a slice's, and the mutable ones are of buffers of their own.
-        let said = unsafe {
-            raw::spoonmeadow_close(
-                self.n,
-                self.k,
-                self.words.as_ptr(),
-                self.words.len(),
-                self.floats.as_ptr(),
-                self.floats.len(),
-                nodes.as_mut_ptr(),
-                nodes.len(),
-                distances.as_mut_ptr(),
-                distances.len(),
-                reports.as_mut_ptr(),
-                reports.len(),
-            )
-        };
-        told(Call::Close, said)?;
+        let state = (&self.words[..], &self.floats[..]);
+        let lists = (&mut nodes[..], &mut distances[..]);
+        let said = lent::close((self.n, self.k), state, lists, &mut reports);
+        told(Call::Close, said.refusal, said.first, said.second)?;
         let taken = reports.chunks_exact(2).take(self.jobs);
         Ok(Closed {
             lists: Lists::of_parts(self.n, self.k, nodes, distances),
