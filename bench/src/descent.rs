@@ -1,7 +1,7 @@
 //! Rows of begin and of one iteration.
 
+use crate::buffers::Buffers;
 use crate::game::{Game, MT};
-use crate::ours::{self, Iterated, Said, Scratch, State};
 use crate::row::Row;
 use oracle::core::knn::NNDescentHandler;
 use oracle::core::neighbor::Neighbor;
@@ -9,6 +9,8 @@ use oracle::core::node::Node;
 use oracle::local::fixedbitset::FixedBitSet;
 use oracle::local::rand;
 use oracle::prng::Prng;
+use spoonmeadow::raw::{Iterated, Said};
+use spoonmeadow::{lengths, lent};
 use std::rc::Rc;
 
 type Handler = NNDescentHandler<'static, f32, usize>;
@@ -34,25 +36,27 @@ impl Side {
         }
     }
 
+    fn sizes(&self) -> (usize, usize) {
+        (self.k, self.s)
+    }
+
     fn draws(&self, seed: u64, count: usize) -> Vec<u32> {
         let rng = &mut Prng::new(seed);
         (0..count).map(|_| rng.below(1 << 31) as u32).collect()
     }
 
-    fn blank(&self) -> State {
+    fn blank(&self) -> Buffers {
         let (n, k) = (self.game.n, self.k);
-        State {
-            words: vec![0; n * k + 260 * n + (n * n + 31) / 32],
-            floats: vec![0.0; n * k],
-        }
+        Buffers::new(lengths::descent_words(n, k), lengths::lists(n, k))
     }
 
-    fn scratch(&self) -> Scratch {
-        Scratch::new(512 * self.game.n + 4096)
+    fn scratch(&self) -> Buffers {
+        let room = lengths::taught_scratch(self.game.n);
+        Buffers::new(room, room)
     }
 
     /// hora's state in the places of docs/LAYOUT.md.
-    fn state(&self) -> State {
+    fn state(&self) -> Buffers {
         let (n, k) = (self.game.n, self.k);
         let mut state = self.blank();
         for (at, entry) in self.handler.graph().iter().flatten().enumerate() {
@@ -77,7 +81,7 @@ impl Side {
     }
 
     /// Puts a state of ours into hora's handler.
-    fn give(&mut self, state: &State) {
+    fn give(&mut self, state: &Buffers) {
         let (n, k) = (self.game.n, self.k);
         let entry = |at: usize| Neighbor::new(state.words[at] as usize, state.floats[at]);
         let lists = (0..n)
@@ -104,8 +108,8 @@ impl Side {
 pub struct BeginRow {
     side: Side,
     draws: Vec<u32>,
-    state: State,
-    scratch: Scratch,
+    state: Buffers,
+    scratch: Buffers,
     said: Said,
 }
 
@@ -113,7 +117,7 @@ impl BeginRow {
     pub fn new(game: Rc<Game>, k: usize) -> Self {
         let side = Side::new(game, k);
         BeginRow {
-            draws: side.draws(1, 2 * side.game.n * side.s),
+            draws: side.draws(1, lengths::begin_draws(side.game.n, side.s)),
             state: side.blank(),
             scratch: side.scratch(),
             said: Said::default(),
@@ -122,7 +126,7 @@ impl BeginRow {
     }
 
     /// The state that begin leaves, for an iteration.
-    fn begun(mut self) -> (Side, State) {
+    fn begun(mut self) -> (Side, Buffers) {
         self.prepare();
         self.rust();
         let state = self.side.state();
@@ -152,14 +156,9 @@ impl Row for BeginRow {
     }
 
     fn ours(&mut self) {
-        let sizes = (self.side.k, self.side.s);
-        self.said = ours::begin(
-            self.side.game.lent(),
-            sizes,
-            &self.draws,
-            &mut self.state,
-            &mut self.scratch,
-        );
+        let (points, sizes) = (&self.side.game.points, self.side.sizes());
+        let (state, scratch) = (self.state.lent(), self.scratch.lent());
+        self.said = lent::begin(points, sizes, &self.draws, state, scratch);
     }
 }
 
@@ -168,9 +167,9 @@ pub struct IterateRow {
     side: Side,
     number: usize,
     draws: Vec<u32>,
-    given: State,
-    state: State,
-    scratch: Scratch,
+    given: Buffers,
+    state: Buffers,
+    scratch: Buffers,
     said: Iterated,
     total_of_new: usize,
 }
@@ -178,7 +177,7 @@ pub struct IterateRow {
 impl IterateRow {
     pub fn new(game: Rc<Game>, k: usize, before: usize) -> Self {
         let (mut side, mut given) = BeginRow::new(game, k).begun();
-        let draws = side.draws(2, 2 * side.game.n * k);
+        let draws = side.draws(2, lengths::iterate_draws(side.game.n, k));
         for _ in 0..before {
             rand::lend_draws(&draws);
             side.handler.iterate();
@@ -208,7 +207,7 @@ impl Row for IterateRow {
         self.ours();
         let said = Iterated {
             cost: *self.side.handler.cost(),
-            new: self.total_of_new,
+            total: self.total_of_new,
             ..Iterated::default()
         };
         assert_eq!(self.said, said, "what an iteration says differs");
@@ -227,13 +226,8 @@ impl Row for IterateRow {
     }
 
     fn ours(&mut self) {
-        let sizes = (self.side.k, self.side.s);
-        self.said = ours::iterate(
-            self.side.game.lent(),
-            sizes,
-            &self.draws,
-            &mut self.state,
-            &mut self.scratch,
-        );
+        let (points, sizes) = (&self.side.game.points, self.side.sizes());
+        let (state, scratch) = (self.state.lent(), self.scratch.lent());
+        self.said = lent::iterate(points, sizes, &self.draws, state, scratch);
     }
 }

@@ -1,21 +1,18 @@
 //! Games: uniform and clustered lanes, roots and queries, from a seed.
 
-use crate::ours::Lanes;
 use oracle::core::metrics::Metric;
 use oracle::core::node::Node;
 use oracle::index::ssg_idx::SSGIndex;
 use oracle::index::ssg_params::SSGParams;
 use oracle::prng::Prng;
+use spoonmeadow::{Params, Points};
 
 pub const MT: Metric = Metric::Euclidean;
 
-/// Sizes 64/64/100 and the default threshold; 64 roots.
-pub const SIZES: crate::ours::Sizes = crate::ours::Sizes {
-    init_k: 64,
-    index_size: 64,
-    neighbor_neighbor_size: 100,
-    threshold: 0.5,
-};
+pub const INIT_K: usize = 64;
+pub const INDEX_SIZE: usize = 64;
+const NEIGHBOR_NEIGHBOR_SIZE: usize = 100;
+const THRESHOLD: f32 = 0.5;
 pub const ROOTS: usize = 64;
 pub const QUERIES: usize = 64;
 
@@ -29,7 +26,7 @@ pub struct Game {
     pub dimension: usize,
     pub n: usize,
     pub style: Style,
-    pub lanes: Vec<f32>,
+    pub points: Points,
     pub roots: Vec<u32>,
     pub queries: Vec<f32>,
 }
@@ -73,7 +70,7 @@ impl Game {
             dimension,
             n,
             style,
-            lanes,
+            points: Points::new(dimension, lanes),
             roots,
             queries,
         }
@@ -87,12 +84,13 @@ impl Game {
         format!("{} | {} | {}", self.n, self.dimension, style)
     }
 
-    pub fn lent(&self) -> Lanes<'_> {
-        Lanes {
-            dimension: self.dimension,
-            n: self.n,
-            of: &self.lanes,
-        }
+    /// Our parameters; hora's are the same (`index`).
+    pub fn params() -> Params {
+        Params::default()
+            .init_k(INIT_K)
+            .index_size(INDEX_SIZE)
+            .neighbor_neighbor_size(NEIGHBOR_NEIGHBOR_SIZE)
+            .threshold(THRESHOLD)
     }
 
     pub fn query(&self, i: usize) -> &[f32] {
@@ -100,7 +98,7 @@ impl Game {
     }
 
     pub fn nodes(&self) -> Vec<Box<Node<f32, usize>>> {
-        let rows = self.lanes.chunks(self.dimension).enumerate();
+        let rows = self.points.lanes().chunks(self.dimension).enumerate();
         rows.map(|(i, row)| Box::new(Node::new_with_idx(row, i)))
             .collect()
     }
@@ -108,10 +106,10 @@ impl Game {
     /// hora's index, not yet built.
     pub fn index(&self) -> SSGIndex<f32, usize> {
         let params = SSGParams::default()
-            .init_k(SIZES.init_k)
-            .index_size(SIZES.index_size)
-            .neighbor_neighbor_size(SIZES.neighbor_neighbor_size)
-            .threshold(SIZES.threshold);
+            .init_k(INIT_K)
+            .index_size(INDEX_SIZE)
+            .neighbor_neighbor_size(NEIGHBOR_NEIGHBOR_SIZE)
+            .threshold(THRESHOLD);
         let mut index = SSGIndex::new(self.dimension, &params);
         for node in self.nodes() {
             index.add_node(&node).unwrap();

@@ -1,9 +1,9 @@
 //! Times (`time`) or counts (`count`) hora's Rust and our static library on the same inputs in one process.
 
+mod buffers;
 mod clock;
 mod descent;
 mod game;
-mod ours;
 mod row;
 mod taught;
 
@@ -87,7 +87,7 @@ impl Asked {
             if self.names("begin") {
                 self.measure(&mut BeginRow::new(game.clone(), *k), 0);
             }
-            if ours::ITERATES && self.names("iterate") {
+            if self.names("iterate") {
                 for before in [0, 1] {
                     self.measure(&mut IterateRow::new(game.clone(), *k, before), game.n);
                 }

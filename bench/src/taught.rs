@@ -1,17 +1,20 @@
 //! Rows of build and of search.
 
-use crate::game::{Game, MT, QUERIES, SIZES};
-use crate::ours::{self, Found, Looked, Said, Scratch};
+use crate::buffers::Buffers;
+use crate::game::{Game, INDEX_SIZE, INIT_K, MT, QUERIES};
 use crate::row::Row;
 use oracle::core::node::Node;
 use oracle::index::ssg_idx::SSGIndex;
+use spoonmeadow::lengths;
+use spoonmeadow::lent::{self, Looked};
+use spoonmeadow::raw::{Found, Said};
 use std::rc::Rc;
 
 pub struct BuildRow {
     game: Rc<Game>,
     index: SSGIndex<f32, usize>,
     pub graph: Vec<u32>,
-    scratch: Scratch,
+    scratch: Buffers,
     said: Said,
 }
 
@@ -20,7 +23,7 @@ fn flat(index: &SSGIndex<f32, usize>, n: usize) -> Vec<u32> {
     let mut graph = Vec::new();
     for row in index.rows() {
         let live = row.iter().map(|x| *x as u32);
-        let left = std::iter::repeat(n as u32).take(SIZES.index_size - row.len());
+        let left = std::iter::repeat(n as u32).take(INDEX_SIZE - row.len());
         graph.extend(live.chain(left));
     }
     graph
@@ -28,11 +31,11 @@ fn flat(index: &SSGIndex<f32, usize>, n: usize) -> Vec<u32> {
 
 impl BuildRow {
     pub fn new(game: Rc<Game>) -> Self {
-        let length = 4 * game.n * (SIZES.init_k + SIZES.index_size) + 4096;
+        let room = lengths::build_scratch(game.n, INIT_K, INDEX_SIZE);
         BuildRow {
             index: game.index(),
-            graph: vec![0; game.n * SIZES.index_size],
-            scratch: Scratch::new(length),
+            graph: vec![0; lengths::graph(game.n, INDEX_SIZE)],
+            scratch: Buffers::new(room, room),
             said: Said::default(),
             game,
         }
@@ -59,7 +62,12 @@ impl Row for BuildRow {
     }
 
     fn ours(&mut self) {
-        self.said = ours::build(SIZES, self.game.lent(), &mut self.graph, &mut self.scratch);
+        self.said = lent::build(
+            &self.game.points,
+            Game::params(),
+            &mut self.graph,
+            self.scratch.lent(),
+        );
     }
 }
 
@@ -72,12 +80,12 @@ pub struct SearchRow {
     k: usize,
     nodes: Vec<u32>,
     bits: Vec<u32>,
-    scratch: Scratch,
+    scratch: Buffers,
 }
 
 impl SearchRow {
     pub fn new(game: Rc<Game>, graph: &[u32], k: usize) -> Self {
-        let rows = graph.chunks(SIZES.index_size);
+        let rows = graph.chunks(INDEX_SIZE);
         let live = rows.map(|row| {
             row.iter()
                 .map(|x| *x as usize)
@@ -86,6 +94,7 @@ impl SearchRow {
         });
         let mut index = game.index();
         index.give_graph(MT, live.collect());
+        let room = lengths::search_scratch(game.n);
         SearchRow {
             index,
             queries: (0..QUERIES).map(|i| Node::new(game.query(i))).collect(),
@@ -93,7 +102,7 @@ impl SearchRow {
             k,
             nodes: vec![0; k],
             bits: vec![0; k],
-            scratch: Scratch::new(4 * game.n + 1024),
+            scratch: Buffers::new(room, room),
             game,
         }
     }
@@ -101,17 +110,17 @@ impl SearchRow {
     fn look_up(&mut self, i: usize) -> Found {
         let looked = Looked {
             graph: &self.graph,
-            index_size: SIZES.index_size,
+            index_size: INDEX_SIZE,
             roots: &self.game.roots,
             query: self.game.query(i),
             k: self.k,
         };
-        ours::search(
-            self.game.lent(),
+        lent::search(
+            &self.game.points,
             &looked,
             &mut self.nodes,
             &mut self.bits,
-            &mut self.scratch,
+            self.scratch.lent(),
         )
     }
 
