@@ -74,87 +74,84 @@ pub fn input_lines(number: usize, case: &Case) -> Vec<Line> {
     let kind = case.kind() as usize;
     let mut lines = vec![Line(format!("{} {} kind {}", word[kind], number, kind))];
     lines.extend(match case {
-        Case::Build(c) => vec![
-            labelled(&[
-                ("dimension", c.lanes.dimension),
-                ("nodes", c.lanes.nodes),
-                ("init_k", c.init_k),
-                ("index_size", c.index_size),
-                ("neighbor_neighbor_size", c.neighbor_neighbor_size),
-                ("threshold", c.threshold as usize),
-            ]),
-            line("lanes", &c.lanes.bits),
-        ],
-        Case::Links(c) => {
-            let mut lines = vec![
-                labelled(&[
-                    ("dimension", c.lanes.dimension),
-                    ("nodes", c.lanes.nodes),
-                    ("index_size", c.index_size),
-                    ("threshold", c.threshold as usize),
-                ]),
-                line("lanes", &c.lanes.bits),
-            ];
-            lines.extend(entries("rows", &c.rows, c.lanes.nodes));
-            lines
-        }
-        Case::Search(c) => vec![
-            labelled(&[
-                ("dimension", c.lanes.dimension),
-                ("nodes", c.lanes.nodes),
-                ("index_size", c.index_size),
-                ("k", c.k),
-            ]),
-            counted("roots", &c.roots),
-            line("lanes", &c.lanes.bits),
-            line("query", &c.query),
-            line("graph", &c.graph),
-        ],
-        Case::Descent(c) => {
-            let mut lines = descent_head(&c.lanes, c.k, c.s);
-            lines.push(counted("begin_draws", &c.begin_draws));
-            lines.push(labelled(&[("iterations", c.iteration_draws.len())]));
-            for draws in &c.iteration_draws {
-                lines.push(counted("iteration_draws", draws));
-            }
-            lines
-        }
-        Case::Iterate(c) => {
-            let mut lines = descent_head(&c.lanes, c.k, c.s);
-            lines.extend(state_lines(&c.state, c.lanes.nodes));
-            lines.push(counted("draws", &c.draws));
-            lines
-        }
-        Case::Relay(c) => {
-            let mut lines = vec![
-                labelled(&[
-                    ("dimension", c.lanes.dimension),
-                    ("nodes", c.lanes.nodes),
-                    ("k", c.k),
-                ]),
-                line("lanes", &c.lanes.bits),
-            ];
-            lines.extend(entries("lists", &c.lists, c.lanes.nodes));
-            let mut jobs = vec![c.jobs.len() as u32];
-            jobs.extend(c.jobs.iter().flat_map(|(u, v)| [*u, *v]));
-            lines.push(line("jobs", &jobs));
-            lines.push(counted("moves", &c.moves));
-            lines
-        }
+        Case::Build(c) => build_lines(c),
+        Case::Links(c) => links_lines(c),
+        Case::Search(c) => search_lines(c),
+        Case::Descent(c) => descent_lines(c),
+        Case::Iterate(c) => iterate_lines(c),
+        Case::Relay(c) => relay_lines(c),
     });
     lines
 }
 
+/// The sizes that every case begins with, and its own behind them.
+fn sizes(lanes: &Lanes, own: &[(&str, usize)]) -> Line {
+    let common = [("dimension", lanes.dimension), ("nodes", lanes.nodes)];
+    labelled(&[&common, own].concat())
+}
+
+fn build_lines(c: &Build) -> Vec<Line> {
+    let own = [
+        ("init_k", c.init_k),
+        ("index_size", c.index_size),
+        ("neighbor_neighbor_size", c.neighbor_neighbor_size),
+        ("threshold", c.threshold as usize),
+    ];
+    vec![sizes(&c.lanes, &own), line("lanes", &c.lanes.bits)]
+}
+
+fn links_lines(c: &Links) -> Vec<Line> {
+    let own = [
+        ("index_size", c.index_size),
+        ("threshold", c.threshold as usize),
+    ];
+    let mut lines = vec![sizes(&c.lanes, &own), line("lanes", &c.lanes.bits)];
+    lines.extend(entries("rows", &c.rows, c.lanes.nodes));
+    lines
+}
+
+fn search_lines(c: &Search) -> Vec<Line> {
+    vec![
+        sizes(&c.lanes, &[("index_size", c.index_size), ("k", c.k)]),
+        counted("roots", &c.roots),
+        line("lanes", &c.lanes.bits),
+        line("query", &c.query),
+        line("graph", &c.graph),
+    ]
+}
+
 fn descent_head(lanes: &Lanes, k: usize, s: usize) -> Vec<Line> {
     vec![
-        labelled(&[
-            ("dimension", lanes.dimension),
-            ("nodes", lanes.nodes),
-            ("k", k),
-            ("s", s),
-        ]),
+        sizes(lanes, &[("k", k), ("s", s)]),
         line("lanes", &lanes.bits),
     ]
+}
+
+fn descent_lines(c: &Descent) -> Vec<Line> {
+    let mut lines = descent_head(&c.lanes, c.k, c.s);
+    lines.push(counted("begin_draws", &c.begin_draws));
+    lines.push(labelled(&[("iterations", c.iteration_draws.len())]));
+    for draws in &c.iteration_draws {
+        lines.push(counted("iteration_draws", draws));
+    }
+    lines
+}
+
+fn iterate_lines(c: &Iterate) -> Vec<Line> {
+    let mut lines = descent_head(&c.lanes, c.k, c.s);
+    lines.extend(state_lines(&c.state, c.lanes.nodes));
+    lines.push(counted("draws", &c.draws));
+    lines
+}
+
+fn relay_lines(c: &Relay) -> Vec<Line> {
+    let mut lines = vec![sizes(&c.lanes, &[("k", c.k)]), line("lanes", &c.lanes.bits)];
+    lines.extend(entries("lists", &c.lists, c.lanes.nodes));
+    let mut jobs = vec![c.jobs.len() as u32];
+    jobs.extend(c.jobs.iter().flat_map(|(u, v)| [*u, *v]));
+    lines.push(line("jobs", &jobs));
+    lines.push(counted("moves", &c.moves));
+    lines
 }
 
 /// The numbers of a text in order, comments and words passed over.
@@ -233,90 +230,83 @@ impl Numbers {
     /// The input of a case, after its running number.
     pub fn case(&mut self) -> Case {
         let kind = self.one();
-        let dimension = self.size();
-        let nodes = self.size();
+        let (dimension, nodes) = (self.size(), self.size());
         match kind {
-            1 => {
-                let (init_k, index_size) = (self.size(), self.size());
-                let (neighbor_neighbor_size, threshold) = (self.size(), self.one());
-                let lanes = self.lanes(dimension, nodes);
-                Case::Build(Build {
-                    lanes,
-                    init_k,
-                    index_size,
-                    neighbor_neighbor_size,
-                    threshold,
-                })
-            }
-            2 => {
-                let (index_size, k) = (self.size(), self.size());
-                let roots = self.counted();
-                let lanes = self.lanes(dimension, nodes);
-                let query = self.run(dimension);
-                let graph = self.run(nodes * index_size);
-                Case::Search(Search {
-                    lanes,
-                    index_size,
-                    k,
-                    roots,
-                    query,
-                    graph,
-                })
-            }
-            3 => {
-                let (k, s) = (self.size(), self.size());
-                let lanes = self.lanes(dimension, nodes);
-                let begin_draws = self.counted();
-                let iterations = self.size();
-                let iteration_draws = (0..iterations).map(|_| self.counted()).collect();
-                Case::Descent(Descent {
-                    lanes,
-                    k,
-                    s,
-                    begin_draws,
-                    iteration_draws,
-                })
-            }
-            4 => {
-                let (k, s) = (self.size(), self.size());
-                let lanes = self.lanes(dimension, nodes);
-                let state = self.state(nodes, k);
-                let draws = self.counted();
-                Case::Iterate(Iterate {
-                    lanes,
-                    k,
-                    s,
-                    state,
-                    draws,
-                })
-            }
-            5 => {
-                let k = self.size();
-                let lanes = self.lanes(dimension, nodes);
-                let lists = self.entries(nodes * k);
-                let count = self.size();
-                let jobs = (0..count).map(|_| (self.one(), self.one())).collect();
-                let moves = self.counted();
-                Case::Relay(Relay {
-                    lanes,
-                    k,
-                    lists,
-                    jobs,
-                    moves,
-                })
-            }
-            6 => {
-                let (index_size, threshold) = (self.size(), self.one());
-                let lanes = self.lanes(dimension, nodes);
-                let rows = self.entries(nodes * index_size);
-                Case::Links(Links {
-                    lanes,
-                    index_size,
-                    threshold,
-                    rows,
-                })
-            }
+            1 => Case::Build(self.build(dimension, nodes)),
+            2 => Case::Search(self.search(dimension, nodes)),
+            3 => Case::Descent(self.descent(dimension, nodes)),
+            4 => Case::Iterate(self.iterate(dimension, nodes)),
+            5 => Case::Relay(self.relay(dimension, nodes)),
+            6 => Case::Links(self.links(dimension, nodes)),
             other => panic!("no kind has the number {}", other),
+        }
+    }
+
+    // Each kind's fields are read in the order in which they stand in the text.
+    fn build(&mut self, dimension: usize, nodes: usize) -> Build {
+        let (init_k, index_size) = (self.size(), self.size());
+        let (neighbor_neighbor_size, threshold) = (self.size(), self.one());
+        Build {
+            init_k,
+            index_size,
+            neighbor_neighbor_size,
+            threshold,
+            lanes: self.lanes(dimension, nodes),
+        }
+    }
+
+    fn search(&mut self, dimension: usize, nodes: usize) -> Search {
+        let (index_size, k) = (self.size(), self.size());
+        Search {
+            index_size,
+            k,
+            roots: self.counted(),
+            lanes: self.lanes(dimension, nodes),
+            query: self.run(dimension),
+            graph: self.run(nodes * index_size),
+        }
+    }
+
+    fn descent(&mut self, dimension: usize, nodes: usize) -> Descent {
+        let (k, s) = (self.size(), self.size());
+        Descent {
+            k,
+            s,
+            lanes: self.lanes(dimension, nodes),
+            begin_draws: self.counted(),
+            iteration_draws: (0..self.size()).map(|_| self.counted()).collect(),
+        }
+    }
+
+    fn iterate(&mut self, dimension: usize, nodes: usize) -> Iterate {
+        let (k, s) = (self.size(), self.size());
+        Iterate {
+            k,
+            s,
+            lanes: self.lanes(dimension, nodes),
+            state: self.state(nodes, k),
+            draws: self.counted(),
+        }
+    }
+
+    fn relay(&mut self, dimension: usize, nodes: usize) -> Relay {
+        let k = self.size();
+        Relay {
+            k,
+            lanes: self.lanes(dimension, nodes),
+            lists: self.entries(nodes * k),
+            jobs: (0..self.size()).map(|_| (self.one(), self.one())).collect(),
+            moves: self.counted(),
+        }
+    }
+
+    fn links(&mut self, dimension: usize, nodes: usize) -> Links {
+        let (index_size, threshold) = (self.size(), self.one());
+        Links {
+            index_size,
+            threshold,
+            lanes: self.lanes(dimension, nodes),
+            rows: self.entries(nodes * index_size),
         }
     }
 }

@@ -88,9 +88,32 @@ fn read_cases(text: &str) -> Vec<Case> {
 fn answer(text: &str) {
     let cases = read_cases(text);
     let reorderings = compare_orders(&cases);
+    let (body, meeting) = answered(&cases);
+    let end = format!("end 0 cases {}\n", cases.len());
+    let mut head = String::new();
+    for line in text.lines().take_while(|l| l.starts_with('#')) {
+        head.push_str(line);
+        head.push('\n');
+    }
+    head.push_str(&branches_met(&cases, &meeting));
+    if cases.iter().any(|c| c.kind() == 5) {
+        let text = "relays whose reports differ from those of the order before";
+        head.push_str(&format!("#   {}: {}\n", text, reorderings));
+    }
+    let sum = sum_of(&Numbers::new(&(body.clone() + &end)));
+    head.push_str(&format!("# {}\n", sum));
+    let mut out = std::io::stdout().lock();
+    write!(out, "{}{}{}", head, body, end).expect("stdout");
+}
+
+/// In how many cases each branch was met.
+type Meeting = BTreeMap<&'static str, usize>;
+
+/// Each case with its answer and the branches that it meets.
+fn answered(cases: &[Case]) -> (String, Meeting) {
     branches::set_counts(BTreeMap::new());
     let mut body = String::new();
-    let mut meeting: BTreeMap<&str, usize> = BTreeMap::new();
+    let mut meeting = Meeting::new();
     for (i, case) in cases.iter().enumerate() {
         let before = branches::counts();
         let answers = run::answer_lines(case);
@@ -103,32 +126,17 @@ fn answer(text: &str) {
         met.into_iter()
             .for_each(|name| *meeting.entry(name).or_insert(0) += 1);
     }
-    let mut head = String::new();
-    for line in text.lines().take_while(|l| l.starts_with('#')) {
-        head.push_str(line);
-        head.push('\n');
-    }
-    head.push_str("# Branches met, counted inside the Rust while it answered:\n");
-    for name in branches::names(&beginnings(&cases)) {
+    (body, meeting)
+}
+
+fn branches_met(cases: &[Case], meeting: &Meeting) -> String {
+    let mut text = String::from("# Branches met, counted inside the Rust while it answered:\n");
+    for name in branches::names(&beginnings(cases)) {
         let in_cases = meeting.get(name).copied().unwrap_or(0);
-        head.push_str(&format!(
-            "#   {}: {} in {} cases\n",
-            name,
-            branches::count(name),
-            in_cases
-        ));
+        let count = branches::count(name);
+        text.push_str(&format!("#   {}: {} in {} cases\n", name, count, in_cases));
     }
-    if cases.iter().any(|c| c.kind() == 5) {
-        let text = "relays whose reports differ from those of the order before";
-        head.push_str(&format!("#   {}: {}\n", text, reorderings));
-    }
-    let end = format!("end 0 cases {}\n", cases.len());
-    head.push_str(&format!(
-        "# {}\n",
-        sum_of(&Numbers::new(&(body.clone() + &end)))
-    ));
-    let mut out = std::io::stdout().lock();
-    write!(out, "{}{}{}", head, body, end).expect("stdout");
+    text
 }
 
 /// Reads a list with answers; a digit that differs, or a list cut short, ends it with a failure.

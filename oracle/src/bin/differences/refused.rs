@@ -1,4 +1,4 @@
-//! Entries 1 to 14: lanes, sizes, parameters, roots and graphs that 01 refuses, and two rows whose empty slots nobody sees.
+//! Entries 1 to 14: the inputs of a build and of a search, and of a descent where such an entry names one.
 
 use crate::small::{
     boxed, built, graph, handler, index, lists, params, pruned, search, Handler, MT, TWO,
