@@ -156,7 +156,7 @@ fn i_the_relay() {
 }
 
 #[test]
-fn refusals_in_words() {
+fn refusals_of_an_open_in_words() {
     let points = Points::new(1, vec![0.0, 1.0, 3.0, f32::NAN]);
     let lists = Lists::unfilled(4, 2);
     let refused = |lists: &Lists, jobs: &[(u32, u32)]| {
@@ -184,7 +184,12 @@ fn refusals_in_words() {
         refused(&torn, &[(0, 1)]),
         "12: the lists or the state are not well formed"
     );
-    let mut relay = Relay::open(&points, &lists, &[(0, 1), (3, 3)]).unwrap();
+}
+
+#[test]
+fn refusals_of_moves_and_closes_in_words() {
+    let points = Points::new(1, vec![0.0, 1.0, 3.0, f32::NAN]);
+    let mut relay = Relay::open(&points, &Lists::unfilled(4, 2), &[(0, 1), (3, 3)]).unwrap();
     assert_eq!(
         relay.close().unwrap_err().to_string(),
         "13: job 0 is unfinished"

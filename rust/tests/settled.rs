@@ -1,4 +1,4 @@
-//! The settled squares of document 01 over the boundary: C to G, I and J, and the refusals of each call in words.
+//! The settled squares C to G and J of document 01 over the boundary, and the refusals of a build, a search and a descent in words.
 use spoonmeadow::{Call, Descent, Game, Params, Points, Refusal, Scratch};
 
 fn squares() -> Points {
@@ -85,18 +85,16 @@ fn j_the_refusals() {
     );
 }
 
+fn teach(dimension: usize, lanes: &[f32], params: Params) -> String {
+    words(Game::teach(Points::new(dimension, lanes.to_vec()), params))
+}
+
 #[test]
-fn refusals_in_words() {
-    let teach = |d, lanes: &[f32], p| words(Game::teach(Points::new(d, lanes.to_vec()), p));
+fn refusals_of_a_build_in_words() {
     let lanes = [0.0, 1.0, 3.0, 7.0];
-    assert_eq!(
-        teach(0, &lanes, params()),
-        "1: the dimension is outside 1 to 64"
-    );
-    assert_eq!(
-        teach(65, &[0.0; 130], params()),
-        "1: the dimension is outside 1 to 64"
-    );
+    let dimension = "1: the dimension is outside 1 to 64";
+    assert_eq!(teach(0, &lanes, params()), dimension);
+    assert_eq!(teach(65, &[0.0; 130], params()), dimension);
     assert_eq!(
         teach(1, &[0.0; 4097], params()),
         "2: the number of nodes is outside 2 to 4,096"
@@ -115,11 +113,14 @@ fn refusals_in_words() {
             "4: a whole-number parameter is outside its range"
         );
     }
-    let nan = params().threshold(f32::NAN);
     assert_eq!(
-        teach(1, &lanes, nan),
+        teach(1, &lanes, params().threshold(f32::NAN)),
         "5: the threshold is not a number, or outside -1 to 1"
     );
+}
+
+#[test]
+fn unfit_pairs_in_words() {
     let far = [0.0, 1.0, 2.0, 3.0, 4.0, 5.0, 6.0, f32::INFINITY];
     assert_eq!(
         teach(1, &far, params()),
