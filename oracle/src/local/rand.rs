@@ -11,11 +11,6 @@ pub fn lend_draws(draws: &[u32]) {
     DRAWS.with(|d| *d.borrow_mut() = (draws.to_vec(), 0));
 }
 
-/// How many of the lent draws have been used.
-pub fn draws_used() -> usize {
-    DRAWS.with(|d| d.borrow().1)
-}
-
 fn next_draw() -> usize {
     DRAWS.with(|d| {
         let (draws, used) = &mut *d.borrow_mut();
