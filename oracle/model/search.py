@@ -3,8 +3,17 @@ from entries import distance, fit
 from readings import wrong
 
 
+def unseen(n, row, seen):
+    """The nodes of a row that were not seen, now seen; a row ends at its first value of n or more."""
+    for member in row:
+        if member >= n and not wrong("row-past-end"):
+            return
+        if member < n and member not in seen:
+            seen.add(member)
+            yield member
+
+
 def search(lanes, index_size, k, roots, query, graph):
-    n = lanes.n
     far = {}
 
     def to_query(node):
@@ -23,16 +32,8 @@ def search(lanes, index_size, k, roots, query, graph):
         if wrong("replaced-not-taken") and node not in [b for _, b in best]:
             continue
         takings += 1
-        members = []
-        for member in graph[node * index_size : (node + 1) * index_size]:
-            if member >= n:
-                if wrong("row-past-end"):
-                    continue
-                break
-            if member not in seen:
-                seen.add(member)
-                members.append((to_query(member), member))
-        for entry in sorted(members):
+        row = graph[node * index_size : (node + 1) * index_size]
+        for entry in sorted((to_query(member), member) for member in unseen(lanes.n, row, seen)):
             farthest = best[-1][0]
             if entry[0] > farthest or (wrong("break-on-equal") and entry[0] == farthest):
                 break
