@@ -29,38 +29,22 @@ refusalOf c =
     (cond (eqb (c .number) 10) (Pair (record { 0 = c .first }) (record { 0 = c .second }))
     (cond (eqb (c .number) 11) Draws (cond (eqb (c .number) 12) State (Step (c .first)))))))))))))
 
-back : (r : Refusal) → refusalOf (codeOf r) ≡ r
+-- a refusal is told by its number and places, and none has number 0
+known : (r : Refusal) → (refusalOf (codeOf r) ≡ r) × (eqb (codeOf r .number) 0 ≡ false)
 unfolding codeOf refusalOf
-back Dimension = refl
-back Nodes = refl
-back Lanes = refl
-back Parameter = refl
-back Threshold = refl
-back Buffer = refl
-back (Root at) = refl
-back Query = refl
-back (Job at) = refl
-back (Pair i j) = refl
-back Draws = refl
-back State = refl
-back (Step job) = refl
-
--- no refusal has number 0
-named : (r : Refusal) → eqb (codeOf r .number) 0 ≡ false
-unfolding codeOf
-named Dimension = refl
-named Nodes = refl
-named Lanes = refl
-named Parameter = refl
-named Threshold = refl
-named Buffer = refl
-named (Root at) = refl
-named Query = refl
-named (Job at) = refl
-named (Pair i j) = refl
-named Draws = refl
-named State = refl
-named (Step job) = refl
+known Dimension = (refl, refl)
+known Nodes = (refl, refl)
+known Lanes = (refl, refl)
+known Parameter = (refl, refl)
+known Threshold = (refl, refl)
+known Buffer = (refl, refl)
+known (Root at) = (refl, refl)
+known Query = (refl, refl)
+known (Job at) = (refl, refl)
+known (Pair i j) = (refl, refl)
+known Draws = (refl, refl)
+known State = (refl, refl)
+known (Step job) = (refl, refl)
 
 answerOf : Code → Answer
 answerOf c = cond (eqb (c .number) 0) answer.Done (answer.Refused (refusalOf c))
@@ -68,7 +52,7 @@ answerOf c = cond (eqb (c .number) 0) answer.Done (answer.Refused (refusalOf c))
 answer-back : (a : Answer) → answerOf (saidOf a) ≡ a
 unfolding saidOf answerOf
 answer-back answer.Done = refl
-answer-back (answer.Refused r) = rw (named r) (ap answer.Refused (back r))
+answer-back (answer.Refused r) = rw (known r .1) (ap answer.Refused (known r .0))
 
 pub same-answer : (a b : Answer) → saidOf a ≡ saidOf b → a ≡ b
 same-answer a b e = sym (answer-back a) ∙ ap answerOf e ∙ answer-back b
@@ -79,7 +63,7 @@ searchOf s = cond (eqb (s .code .number) 0) (search.Found (s .m) (s .takings)) (
 search-back : (a : SearchAnswer) → searchOf (searchSaid a) ≡ a
 unfolding searchSaid searchOf
 search-back (search.Found m takings) = refl
-search-back (search.Refused r) = rw (named r) (ap search.Refused (back r))
+search-back (search.Refused r) = rw (known r .1) (ap search.Refused (known r .0))
 
 pub same-search : (a b : SearchAnswer) → searchSaid a ≡ searchSaid b → a ≡ b
 same-search a b e = sym (search-back a) ∙ ap searchOf e ∙ search-back b
@@ -90,7 +74,7 @@ iterateOf s = cond (eqb (s .code .number) 0) (iterate.Iterated (s .cost) (s .new
 iterate-back : (a : IterateAnswer) → iterateOf (iterateSaid a) ≡ a
 unfolding iterateSaid iterateOf
 iterate-back (iterate.Iterated cost new) = refl
-iterate-back (iterate.Refused r) = rw (named r) (ap iterate.Refused (back r))
+iterate-back (iterate.Refused r) = rw (known r .1) (ap iterate.Refused (known r .0))
 
 pub same-iterate : (a b : IterateAnswer) → iterateSaid a ≡ iterateSaid b → a ≡ b
 same-iterate a b e = sym (iterate-back a) ∙ ap iterateOf e ∙ iterate-back b

@@ -1,14 +1,14 @@
 -- Laws of the loops that the rules are written with, for any loop. Assumes nothing.
 use mathlib.Core.Path.{_≡_, refl, sym, ap, _∙_}
 use mathlib.Core.Bool.{Bool, true, false, cond, _||_}
-use mathlib.Core.List.{List, [], _∷_, _++_, map}
+use mathlib.Core.List.{List, [], _∷_, _++_}
 use Prim.Native.Nat.{ℕ, zero, suc, _+_, _-_, _*_, _≤_, _<_}
 use native.Mathlib.Nat.{suc-mul, zero-mul, le-refl, mul-le-mul-right}
 use native.Mathlib.Numerals.{add-one}
 use native.Mathlib.Omega.{arith}
 use lib.Dec.{eqb, ltb}
-use lib.ListN.{length, take, drop, getD, drop-of-length-le, length-append, length-drop}
-use lib.Seq.{drop-cons, drop-append-le, drop-at, take-append-le, take-all}
+use lib.ListN.{length, take, drop, getD, drop-of-length-le, length-append, length-drop, List·getD-append}
+use lib.Seq.{drop-cons, drop-append-le, drop-at, take-append-le, take-all, getD-at}
 use borrow.Author.Tests.{ltb-true, ltb-false, eqb-true, eqb-false}
 use Rattle.rules.specs.Loops.{turns, through, each, firstFrom, anyOf, has, part}
 
@@ -28,27 +28,16 @@ module _ {A S : Type 0} (f : A → S → S) where
   through-append [] ys s = refl
   through-append (x ∷ xs) ys s = through-append xs ys (f x s)
 
-pub through-map : {A B S : Type 0} (f : B → S → S) (g : A → B) (xs : List A) (s : S) → through f (map g xs) s ≡ through (λ (x : A). f (g x)) xs s
-unfolding through
-through-map f g [] s = refl
-through-map f g (x ∷ xs) s = through-map f g xs (f (g x) s)
-
--- loops whose turns do the same do the same
-pub through-same : {A S : Type 0} (f g : A → S → S) → ((x : A) (s : S) → f x s ≡ g x s) → (xs : List A) (s : S) → through f xs s ≡ through g xs s
-unfolding through
-through-same f g e [] s = refl
-through-same f g e (x ∷ xs) s = ap (through f xs) (e x s) ∙ through-same f g e xs (g x s)
-
 -- ---- the turns 0, 1, .., n - 1
 
 pub turns-turn : {S : Type 0} (f : ℕ → S → S) (i : ℕ) (s : S) → f i (turns f i s) ≡ turns f (i + 1) s
 unfolding turns
 turns-turn f i s = rw add-one
 
-pub turns-same : {S : Type 0} (f g : ℕ → S → S) → ((i : ℕ) (s : S) → f i s ≡ g i s) → (n : ℕ) (s : S) → turns f n s ≡ turns g n s
-unfolding turns
-turns-same f g e zero s = refl
-turns-same f g e (suc i) s = ap (f i) (turns-same f g e i s) ∙ e i (turns g i s)
+-- ---- rows of w places
+
+pub row-in : (n w q : ℕ) → q < n → q * w + w ≤ n * w
+row-in n w q l = let m : suc q * w ≤ n * w = mul-le-mul-right w l in let u = suc-mul q w in omega arith
 
 -- ---- lists one behind the other
 
@@ -75,8 +64,7 @@ module _ {A : Type 0} (f : ℕ → List A) (w : ℕ) (long : (q : ℕ) → lengt
       go : (b : Bool) → ltb q i ≡ b → (q < i → take w (drop (q * w) (each f i)) ≡ f q) → take w (drop (q * w) (each f i ++ f i)) ≡ f q
       go true e ih =
           let l : suc q ≤ i = ltb-true q i e in
-          let m : suc q * w ≤ i * w = mul-le-mul-right w l in
-          let u = suc-mul q w in
+          let m = row-in i w q l in
           let v = length-each i in
           let r = length-drop (q * w) (each f i) in
           ap (take w) (drop-append-le (q * w) (each f i) (f i) (omega arith))
@@ -88,6 +76,37 @@ module _ {A : Type 0} (f : ℕ → List A) (w : ℕ) (long : (q : ℕ) → lengt
           let v = long i in
           rw same (ap (take w) (drop-at (each f i) (f i) (i * w) (length-each i)) ∙ take-all w (f i) (omega arith))
 
+-- lists that agree below n
+pub each-alike : {A : Type 0} (f g : ℕ → List A) (n : ℕ) → ((i : ℕ) → i < n → f i ≡ g i) → each f n ≡ each g n
+unfolding each
+each-alike f g zero h = refl
+each-alike {A} f g (suc n) h =
+    ap (λ (l : List A). l ++ f n) (each-alike f g n (λ (i : ℕ) l. h i (omega arith))) ∙ ap (λ (l : List A). each g n ++ l) (h n (omega arith))
+
+-- ---- one for each of the places below n
+
+module _ {A : Type 0} (f : ℕ → A) where
+  abbrev pub ones : ℕ → List A
+  ones n = each (λ (i : ℕ). f i ∷ []) n
+
+  pub length-ones : (n : ℕ) → length (ones n) ≡ n
+  length-ones n = length-each (λ (i : ℕ). f i ∷ []) 1 (λ (i : ℕ). refl) n ∙ omega arith
+
+  pub getD-ones : (n i : ℕ) (z : A) → i < n → getD (ones n) i z ≡ f i
+  unfolding each
+  getD-ones zero i z h = absurd (omega arith)
+  getD-ones (suc n) i z h = go (ltb i n) refl (getD-ones n i z)
+    where
+      go : (b : Bool) → ltb i n ≡ b → (i < n → getD (ones n) i z ≡ f i) → getD (ones n ++ (f n ∷ [])) i z ≡ f i
+      go true e ih =
+          let l = ltb-true i n e in
+          let long = length-ones n in
+          List·getD-append (ones n) (f n ∷ []) z i (omega arith) ∙ ih l
+      go false e ih =
+          let l = ltb-false i n e in
+          let same : n ≡ i = omega arith in
+          getD-at (ones n) (f n) [] z i (length-ones n ∙ same) ∙ ap f same
+
 -- ---- the first place of which a test holds, with t places to try
 
 module _ (p : ℕ → Bool) where
@@ -98,15 +117,6 @@ module _ (p : ℕ → Bool) where
     where
       go : (b : Bool) → suc i ≤ firstFrom p (suc i) t → i ≤ cond b i (firstFrom p (suc i) t)
       go true h = le-refl i
-      go false h = omega arith
-
-  pub first-to : (i t : ℕ) → firstFrom p i t ≤ i + t
-  unfolding firstFrom
-  first-to i zero = omega arith
-  first-to i (suc t) = go (p i) (first-to (suc i) t)
-    where
-      go : (b : Bool) → firstFrom p (suc i) t ≤ suc i + t → cond b i (firstFrom p (suc i) t) ≤ i + suc t
-      go true h = omega arith
       go false h = omega arith
 
   -- the test holds there, and of none before

@@ -1,6 +1,6 @@
 -- Rows and verdicts: which row decides, and what it is that none holds. Assumes nothing.
 use mathlib.Core.Path.{_≡_, refl, _∙_}
-use mathlib.Core.Bool.{Bool, true, false, cond, not, _||_}
+use mathlib.Core.Bool.{Bool, true, false, cond}
 use mathlib.Core.List.{List, [], _∷_, _++_}
 use Prim.Native.Nat.{ℕ, _≤_}
 use native.Mathlib.Omega.{arith}
@@ -9,6 +9,7 @@ use lib.Dec.{ltb}
 use Rattle.rules.specs.Loops.{anyOf}
 use Rattle.rules.specs.Numbers.{outside}
 use Rattle.rules.specs.Refusals.{Row, Code, passed, refused, decide, holds}
+use Rattle.rules.proofs.Tests.{neither}
 
 -- ---- a row in front of others
 
@@ -76,9 +77,4 @@ pub record Within (low high x : ℕ) : Type 0 where
 
 pub within : (low high x : ℕ) → outside low high x ≡ false → Within low high x
 unfolding outside
-within low high x h = go (ltb x low) (ltb high x) refl refl h
-  where
-    go : (a b : Bool) → ltb x low ≡ a → ltb high x ≡ b → (a || b) ≡ false → Within low high x
-    go true b p q e = let z : _≡_ {A = ℕ} 0 1 = cc in absurd (omega arith)
-    go false true p q e = let z : _≡_ {A = ℕ} 0 1 = cc in absurd (omega arith)
-    go false false p q e = record { from = ltb-false x low p; to = ltb-false high x q }
+within low high x h = let n = neither (ltb x low) (ltb high x) h in record { from = ltb-false x low (n .0); to = ltb-false high x (n .1) }
