@@ -15,13 +15,14 @@ use Rattle.rules.specs.Build.{Between}
 use Rattle.rules.specs.Rows.{emptySlot, emptyDistance}
 use Rattle.rules.specs.Offers.{unfilled, emptyBits, entryFormed, entriesFormed, listFormed}
 use Rattle.rules.specs.Descent.{Descent, beginContext, begun, Met, meetAll, unvisit, renewAll, unvisitAll, contextOf, renewed, iterated}
+use Rattle.rules.proofs.Tests.{together}
 use Rattle.neighbor.specs.Holdable.{Holdable}
 use Rattle.neighbor.proofs.Bits.{holdable-empty}
 use Rattle.neighbor.proofs.Order.{irreflexive}
 use Rattle.lists.specs.Ascending.{AllHoldable, NoneBefore, Ascending}
 use Rattle.lists.specs.All.{All}
 use Rattle.lists.proofs.Plain.{all-at, all-of, all-weaker}
-use Rattle.steps.proofs.Formed.{of-ascending, and-join, Kept}
+use Rattle.steps.proofs.Formed.{of-ascending, Kept}
 use Rattle.encoded.proofs.Rows.{length-ones, all-ones}
 use Rattle.descent_kept.specs.Formed.{Each, Few, Below, Formed}
 use Rattle.descent_kept.proofs.Lists.{through-keeps, turns-keeps, Lists, Meeting, all-meet}
@@ -56,11 +57,11 @@ module _ (n : ℕ) where
   empties-formed : (k : ℕ) → entriesFormed n (replicate k (emptySlot n)) ≡ true
   unfolding entriesFormed
   empties-formed zero = refl
-  empties-formed (suc k) = and-join empty-formed (empties-formed k)
+  empties-formed (suc k) = together _ _ empty-formed (empties-formed k)
 
   pub kept-unfilled : (k : ℕ) → Kept n (unfilled n k)
   unfolding unfilled listFormed
-  kept-unfilled k = record { holdable = holdables k; formed = and-join (of-ascending (replicate k e) (ascends k)) (empties-formed k) }
+  kept-unfilled k = record { holdable = holdables k; formed = together _ _ (of-ascending (replicate k e) (ascends k)) (empties-formed k) }
 
 all-replicate : {A : Type 0} (P : A → Type 0) (m : ℕ) (x : A) → P x → All P (replicate m x)
 all-replicate P zero x p = tt

@@ -10,16 +10,10 @@ use lib.Ieee.{Float, binary32, toBits, ofBits, fits}
 use lib.Ieee.Bits.{ofBits-toBits}
 use borrow.Author.Tests.{eqb-true, eq-eqb}
 use Rattle.rules.specs.Places.{sameWords, sameFloats}
+use Rattle.rules.proofs.Tests.{both}
 use Rattle.encoded.specs.Words.{Binary32}
 
 -- ---- two tests at once
-
-pub both : (a b : Bool) → (a && b) ≡ true → (a ≡ true) × (b ≡ true)
-both true b h = (refl, h)
-both false b h = absurd (true≢false (sym h))
-
-pub together : (a b : Bool) → a ≡ true → b ≡ true → (a && b) ≡ true
-together a b p q = rw (p, q)
 
 -- ---- words
 

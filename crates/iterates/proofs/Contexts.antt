@@ -14,8 +14,8 @@ use Rattle.rules.specs.Calls.{descentWords}
 use Rattle.rules.specs.Descent.{Context, Descent}
 use Rattle.rules.specs.Places.{sameWords}
 use Rattle.rules.specs.DescentPlaces.{memberWords, membersIn, contextIn, membersFormed, descentIn, descentFormed}
+use Rattle.rules.proofs.Tests.{both}
 use Rattle.lists.specs.All.{All}
-use Rattle.encoded.proofs.Same.{both}
 use Rattle.zeros.specs.Zeros.{allBelow}
 use Rattle.zeros.proofs.Laws.{all-at}
 use Rattle.members.proofs.Laws.{members-front, area-in, each-alike}

@@ -15,7 +15,7 @@ use Rattle.rules.specs.Offers.{listsFormed}
 use Rattle.rules.specs.Descent.{Context, Descent, Met, meetAll}
 use Rattle.rules.specs.Places.{listsIn}
 use Rattle.rules.specs.DescentPlaces.{bitAt, contextIn, descentIn, descentFormed}
-use Rattle.encoded.proofs.Same.{both}
+use Rattle.rules.proofs.Tests.{both}
 use Rattle.zeros.specs.Zeros.{allBelow}
 use Rattle.visits.specs.Marks as visits
 use Rattle.meets.specs.Meets.{marksAt, Game, Holds, Does}

@@ -13,8 +13,8 @@ use Rattle.rules.specs.Distance.{fit}
 use Rattle.rules.specs.Relay.{Stage, stepsOf, takenOf, longerOf, bit}
 use Rattle.rules.specs.Places.{padded, sameWords}
 use Rattle.rules.specs.RelayPlaces.{jobWords, jobIn, stageIn, stageFormed, jobFormed, pending}
+use Rattle.rules.proofs.Tests.{both, together}
 use Rattle.zeros.specs.Zeros.{zeros}
-use Rattle.steps.proofs.Formed.{both, and-join}
 use Rattle.jobs.specs.Jobs.{halfFormed, distanceFormed, jobTest, PendingHalf, PendingJob}
 
 -- ---- two tests that hold of the same are one

@@ -15,9 +15,9 @@ use Rattle.rules.specs.Descent.{listAt}
 use Rattle.rules.specs.Relay.{Stage, fresh, looked, pushed, measured, popped, isPopped, Job, Relay, isFinished, equalNodes, forU, forV, jobOf, opened}
 use Rattle.rules.specs.RelayPlaces.{pendingAt}
 use Rattle.rules.specs.RelayCall.{OpenLent, openedOn}
+use Rattle.rules.proofs.Tests.{both}
 use Rattle.lists.specs.All.{All}
 use Rattle.lists.proofs.Laws.{insertAll-ascending}
-use Rattle.encoded.proofs.Same.{both}
 use Rattle.relay_kept.specs.Formed.{Formed}
 use Rattle.relay_kept.proofs.Jobs.{pending-popped}
 use Rattle.orders.specs.Steps.{waits, waiting, leftFirst, leftSecond, left}

@@ -17,6 +17,7 @@ use Rattle.rules.specs.Lists.{neighbor, nodeOf, insert, insertAll}
 use Rattle.rules.specs.Search.{farthest}
 use Rattle.rules.specs.Offers.{look}
 use Rattle.rules.specs.Relay.{Stage, fresh, looked, pushed, measured, popped, isPopped, takenOf, Job, Relay, nextStage, equalNodes, isFinished, noJob, jobAt, moved, bit, reportsOf}
+use Rattle.rules.proofs.Tests.{both}
 use Rattle.neighbor.specs.Holdable.{Holdable}
 use Rattle.neighbor.proofs.Bits.{bits-lt, bits-eq}
 use Rattle.neighbor.proofs.Order.{total}
@@ -24,7 +25,6 @@ use Rattle.lists.specs.Ascending.{AllHoldable, Ascending}
 use Rattle.lists.specs.All.{All}
 use Rattle.lists.proofs.Laws.{holdable-insert, length-insert}
 use Rattle.lists.proofs.Plain.{all-at, all-take}
-use Rattle.encoded.proofs.Same.{both}
 use Rattle.relay_kept.specs.Formed.{Formed}
 use Rattle.relay_kept.specs.Halves.{target, entryOf, stageOf, halfAt, found, jobAfter}
 use Rattle.relay_kept.proofs.Kept.{moved-formed, job-formed, target-below, room-before, offer-held}

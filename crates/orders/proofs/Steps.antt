@@ -16,11 +16,11 @@ use Rattle.rules.specs.Search.{farthest}
 use Rattle.rules.specs.Offers.{look, pop}
 use Rattle.rules.specs.Relay.{Stage, fresh, looked, pushed, measured, popped, nextStage, nextList}
 use Rattle.rules.specs.RelayPlaces.{stageFormed, pending}
+use Rattle.rules.proofs.Tests.{both}
 use Rattle.neighbor.specs.Holdable.{Holdable}
 use Rattle.neighbor.proofs.Order.{asymmetric}
 use Rattle.lists.specs.Ascending.{AllHoldable, Ascending}
 use Rattle.lists.proofs.Laws.{take-before, place-behind, holdable-at}
-use Rattle.encoded.proofs.Same.{both}
 use Rattle.relay_kept.specs.Formed.{ListFormed}
 use Rattle.orders.specs.Steps.{lookTakes, popLast, waits, waiting}
 

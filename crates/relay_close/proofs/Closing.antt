@@ -17,12 +17,12 @@ use Rattle.rules.specs.Lists.{nodesOf, distancesOf}
 use Rattle.rules.specs.Relay.{Job, Relay, noJob, jobAt, isPopped, isFinished, takenOf, bit, reportsOf}
 use Rattle.rules.specs.Places.{padded, listWords, listFloats}
 use Rattle.rules.specs.RelayPlaces.{pending, pendingAt, relayIn}
+use Rattle.rules.proofs.Tests.{both}
 use Rattle.lists.specs.All.{All}
 use Rattle.lists.proofs.Plain.{all-of}
 use Rattle.buffers.proofs.Laws.{Written, written-more}
 use Rattle.encoded.specs.Words.{Rows}
 use Rattle.encoded.proofs.Lists.{length-nodes, length-distances, length-list-words, length-list-floats, part-nodes, part-distances}
-use Rattle.steps.proofs.Formed.{both}
 use Rattle.relay_state.specs.State.{Sized}
 use Rattle.relay_state.proofs.Parts.{sizes, inside}
 use Rattle.relay_state.proofs.Reading.{lists-long, list-at}

@@ -13,11 +13,11 @@ use borrow.Author.Tests.{eqb-true, ltb-true, lt-ltb}
 use Rattle.rules.specs.Distance.{fit}
 use Rattle.rules.specs.Relay.{Stage, fresh, looked, pushed, measured, popped, isPopped, Job, equalNodes, noJob}
 use Rattle.rules.specs.RelayPlaces.{stageFormed, jobFormed, jobsFormed, pending, pendingAt}
+use Rattle.rules.proofs.Tests.{both, together}
 use Rattle.neighbor.specs.Holdable.{Holdable}
 use Rattle.neighbor.proofs.Bits.{holdable-fit}
 use Rattle.lists.specs.All.{All}
 use Rattle.encoded.specs.Words.{Readable}
-use Rattle.encoded.proofs.Same.{both, together}
 use Rattle.relay_kept.specs.Formed.{JobFormed}
 use Rattle.relay_kept.specs.Halves.{stageOf, target, withStage, others, pendingJob, pendingBeside}
 

@@ -13,10 +13,10 @@ use Rattle.rules.specs.Offers.{entryFormed, look, pop}
 use Rattle.rules.specs.Descent.{listAt}
 use Rattle.rules.specs.Relay.{Stage, fresh, looked, pushed, measured, popped, isPopped, Job, Relay, nextStage, nextList, moveFirst, moveSecond, moved, equalNodes, noJob, jobAt}
 use Rattle.rules.specs.RelayPlaces.{stageFormed, pending, pendingAt}
+use Rattle.rules.proofs.Tests.{both, together}
 use Rattle.neighbor.specs.Holdable.{Holdable}
 use Rattle.lists.proofs.Laws.{length-insert}
 use Rattle.lists.proofs.Plain.{all-at}
-use Rattle.encoded.proofs.Same.{both, together}
 use Rattle.relay_kept.specs.Formed.{ListFormed, JobFormed, Formed}
 use Rattle.relay_kept.specs.Halves.{target, entryOf, stageOf, withStage, halfAt, found, jobAfter, relayAfter, others, pendingJob, pendingBeside}
 use Rattle.steps.proofs.Formed.{entry-formed}

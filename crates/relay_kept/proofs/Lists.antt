@@ -10,11 +10,11 @@ use lib.Ieee.{binary32, fits}
 use Rattle.rules.specs.declared.Neighbor.{Neighbor}
 use Rattle.rules.specs.Lists.{insert, distancesOf}
 use Rattle.rules.specs.Offers.{entryFormed, entriesFormed, ascending, listFormed, listsFormed}
+use Rattle.rules.proofs.Tests.{both, together}
 use Rattle.neighbor.specs.Holdable.{Holdable}
 use Rattle.lists.specs.All.{All}
 use Rattle.steps.proofs.Formed.{of-ascending, Kept, kept-of, kept-ascending, kept-push, kept-take}
 use Rattle.encoded.specs.Words.{Binary32}
-use Rattle.encoded.proofs.Same.{both, together}
 use Rattle.relay_kept.specs.Formed.{ListFormed}
 
 module _ (n : ℕ) where

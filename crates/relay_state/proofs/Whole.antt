@@ -20,6 +20,7 @@ use Rattle.rules.specs.Relay.{Job, Relay, noJob}
 use Rattle.rules.specs.Places.{padded, sameWords, sameFloats}
 use Rattle.rules.specs.RelayPlaces.{jobWords, jobsWords, jobsFloats, jobIn, jobFormed, jobsFormed, pendingAt, lengthsFormed, relayIn, relayState, relayStateFloats, relayFormed}
 use Rattle.rules.proofs.Tables.{within}
+use Rattle.rules.proofs.Tests.{both, together}
 use Rattle.lists.specs.All.{All}
 use Rattle.lists.proofs.Plain.{all-at, all-take}
 use Rattle.lists.proofs.Slices.{length-entries, nodesOf-entries, distancesOf-entries}
@@ -30,7 +31,6 @@ use Rattle.encoded.proofs.Jobs.{length-jobWords, length-jobsWords, length-jobsF
 use Rattle.encoded.proofs.Back.{words-at, floats-at, length-in, count-at, jobs-in, job-words-at, distances-in}
 use Rattle.zeros.specs.Zeros.{zeros, allBelow}
 use Rattle.zeros.proofs.Laws as all
-use Rattle.steps.proofs.Formed.{both, and-join}
 use Rattle.jobs.specs.Jobs.{jobTest}
 use Rattle.relay_state.specs.State.{Sized, jobsTest, roomTest, roomAt}
 use Rattle.relay_state.proofs.Zeroed.{zeros-are, are-zeros, floats-are, are-floats, all-drop}
@@ -48,7 +48,7 @@ lists-each n (x ∷ ls) h (suc w) l = lists-each n ls (both (listFormed n x) (li
 each-lists : (n : ℕ) (ls : List (List Neighbor)) → ((w : ℕ) → w < length ls → listFormed n (getD ls w []) ≡ true) → listsFormed n ls ≡ true
 unfolding listsFormed
 each-lists n [] f = refl
-each-lists n (x ∷ ls) f = and-join (f 0 (omega arith)) (each-lists n ls (λ (w : ℕ) (h : w < length ls). f (suc w) (omega arith)))
+each-lists n (x ∷ ls) f = together _ _ (f 0 (omega arith)) (each-lists n ls (λ (w : ℕ) (h : w < length ls). f (suc w) (omega arith)))
 
 jobs-each : (n : ℕ) (js : List Job) → jobsFormed n js ≡ true → (i : ℕ) → i < length js → jobFormed n (getD js i noJob) ≡ true
 unfolding jobsFormed
@@ -59,7 +59,7 @@ jobs-each n (j ∷ js) h (suc i) l = jobs-each n js (both (jobFormed n j) (jobsF
 each-jobs : (n : ℕ) (js : List Job) → ((i : ℕ) → i < length js → jobFormed n (getD js i noJob) ≡ true) → jobsFormed n js ≡ true
 unfolding jobsFormed
 each-jobs n [] f = refl
-each-jobs n (j ∷ js) f = and-join (f 0 (omega arith)) (each-jobs n js (λ (i : ℕ) (h : i < length js). f (suc i) (omega arith)))
+each-jobs n (j ∷ js) f = together _ _ (f 0 (omega arith)) (each-jobs n js (λ (i : ℕ) (h : i < length js). f (suc i) (omega arith)))
 
 lengths-each : (k : ℕ) (js : List Job) (v : ℕ) (ls : List (List Neighbor)) → lengthsFormed k js v ls ≡ true → (w : ℕ) → w < length ls → length (getD ls w []) ≡ k + pendingAt (v + w) js
 unfolding lengthsFormed
@@ -76,7 +76,7 @@ unfolding lengthsFormed
 each-lengths k js v [] f = refl
 each-lengths k js v (x ∷ ls) f =
     let e : v + 0 ≡ v = omega arith in
-    and-join (eq-eqb (length x) (k + pendingAt v js) (rw e at (f 0 (omega arith))))
+    together _ _ (eq-eqb (length x) (k + pendingAt v js) (rw e at (f 0 (omega arith))))
     (each-lengths k js (suc v) ls (λ (w : ℕ) (h : w < length ls).
     let g : v + suc w ≡ suc v + w = omega arith in
     rw g at (f (suc w) (omega arith))))
@@ -119,14 +119,14 @@ module _ (n k : ℕ) (us : List ℕ) (fs : List Float) (B : Binary32 fs) where
   formed f =
       let ll = lists-long n k us fs in
       let jl = jobs-long n k us fs in
-      and-join (same-words us (relayState k r) (f .words))
-      (and-join (same-floats fs (relayStateFloats k r) (f .floats))
-      (and-join (each-lists n (r .lists) (λ (w : ℕ) l. ap (listFormed n) (list-at n k us fs w (omega arith)) ∙ f .lists w (omega arith)))
-      (and-join
+      together _ _ (same-words us (relayState k r) (f .words))
+      (together _ _ (same-floats fs (relayStateFloats k r) (f .floats))
+      (together _ _ (each-lists n (r .lists) (λ (w : ℕ) l. ap (listFormed n) (list-at n k us fs w (omega arith)) ∙ f .lists w (omega arith)))
+      (together _ _
       (each-lengths k (r .jobs) 0 (r .lists) (λ (w : ℕ) l.
       let e : 0 + w ≡ w = omega arith in
       rw e (ap length (list-at n k us fs w (omega arith)) ∙ f .lengths w (omega arith))))
-      (and-join (ap not (ap (outside 1 64) jl ∙ f .count))
+      (together _ _ (ap not (ap (outside 1 64) jl ∙ f .count))
       (each-jobs n (r .jobs) (λ (i : ℕ) l. ap (jobFormed n) (job-at n k us fs i (omega arith)) ∙ f .jobs i (omega arith)))))))
 
 -- ---- facts give the tests
@@ -164,13 +164,13 @@ module _ {n k : ℕ} {us : List ℕ} {fs : List Float} (z : Sized n k us fs) (f 
       let all-words = s .all-words in
       let long : length (take (k + 64) (drop (w * (k + 64)) us)) ≡ k + 64 = simp (length-take, length-drop) (omega arith) in
       let few = short n k us fs w in
-      and-join (eq-eqb len (k + pendingAt w (relayIn n k us fs .jobs)) (a ∙ b))
-      (and-join (le-leb len (length (take (k + 64) (drop (w * (k + 64)) us))) (omega arith))
-      (and-join
+      together _ _ (eq-eqb len (k + pendingAt w (relayIn n k us fs .jobs)) (a ∙ b))
+      (together _ _ (le-leb len (length (take (k + 64) (drop (w * (k + 64)) us))) (omega arith))
+      (together _ _
       (ap (λ (xs : List ℕ). zeros (drop len xs)) (words-are w h)
       ∙ ap zeros (drop-at (nodesOf (l w)) (replicate (k + 64 - length (nodesOf (l w))) 0) len (length-nodes (l w) ∙ sym a))
       ∙ are-zeros (k + 64 - length (nodesOf (l w))))
-      (and-join
+      (together _ _
       (ap (λ (xs : List Float). zeros (map (toBits binary32) (drop len xs))) (floats-as w h)
       ∙ ap (λ (xs : List Float). zeros (map (toBits binary32) xs))
       (drop-at (distancesOf (l w)) (replicate (k + 64 - length (distancesOf (l w))) zero32) len (length-distances (l w) ∙ sym a))
@@ -193,7 +193,7 @@ module _ {n k : ℕ} {us : List ℕ} {fs : List Float} (z : Sized n k us fs) (f 
       let e : ws ≡ jobWords (jobOf n k us fs i) ++ rest =
       ap (drop (n * (k + 65) + 1 + 15 * i)) (f .words) ∙ job-words-at n k (relayIn n k us fs) F i (omega arith)
       ∙ ap (λ (j : Job). jobWords j ++ rest) (job-at n k us fs i h) in
-      and-join
+      together _ _
       (same-words (take 15 ws) (jobWords (jobOf n k us fs i)) (ap (take 15) e ∙ take-at (jobWords (jobOf n k us fs i)) rest 15 (length-jobWords (jobOf n k us fs i))))
       (f .jobs i h)
 
@@ -225,13 +225,13 @@ module _ {n k : ℕ} {us : List ℕ} {fs : List Float} (z : Sized n k us fs) (f 
       let at : n * (k + 64) + n + 0 ≡ n * (k + 65) = omega arith in
       let c : getD (drop (n * (k + 64) + n) us) 0 0 ≡ m = getD-drop (n * (k + 64) + n) us 0 0 ∙ ap (λ (i : ℕ). getD us i 0) at ∙ count-is in
       rw c
-      (and-join (ap not (f .count))
-      (and-join
+      (together _ _ (ap not (f .count))
+      (together _ _
       (all.all-of (λ (i : ℕ). jobTest n (drop (1 + 15 * i) (drop (n * (k + 64) + n) us)) (getD (drop (n * (k + 64)) fs) i zero32)) m
       (λ (i : ℕ) (h : i < m).
       ap (λ (ws : List ℕ). jobTest n ws (getD (drop (n * (k + 64)) fs) i zero32)) (sym (from-jobs s us i))
       ∙ ap (jobTest n (drop (n * (k + 65) + 1 + 15 * i) us)) (getD-drop (n * (k + 64)) fs i zero32) ∙ job-holds i h))
-      (and-join (ap zeros (sym (from-jobs s us m)) ∙ words-behind) floats-behind)))
+      (together _ _ (ap zeros (sym (from-jobs s us m)) ∙ words-behind) floats-behind)))
 
   pub tests-hold : (jobsTest n (drop (n * (k + 64) + n) us) (drop (n * (k + 64)) fs) && allBelow (roomAt n k us fs) n) ≡ true
-  tests-hold = and-join jobs-hold (all.all-of (roomAt n k us fs) n room-holds)
+  tests-hold = together _ _ jobs-hold (all.all-of (roomAt n k us fs) n room-holds)

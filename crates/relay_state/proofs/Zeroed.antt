@@ -14,12 +14,12 @@ use Rattle.rules.specs.Lists.{entries, distancesOf}
 use Rattle.rules.specs.Relay.{Job}
 use Rattle.rules.specs.Places.{padded}
 use Rattle.rules.specs.RelayPlaces.{roomFloats, jobsFloats}
+use Rattle.rules.proofs.Tests.{both}
 use Rattle.lists.specs.All.{All}
 use Rattle.lists.proofs.Plain.{all-append}
 use Rattle.encoded.specs.Words.{Binary32}
 use Rattle.encoded.proofs.Same.{bits-same}
 use Rattle.zeros.specs.Zeros.{zeros}
-use Rattle.steps.proofs.Formed.{both}
 
 -- ---- zeros
 

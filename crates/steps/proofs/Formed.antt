@@ -12,6 +12,7 @@ use Rattle.rules.specs.declared.Neighbor.{Neighbor}
 use Rattle.rules.specs.Distance.{before, fit}
 use Rattle.rules.specs.Lists.{neighbor, nodeOf, insert}
 use Rattle.rules.specs.Offers.{emptyBits, entryFormed, entriesFormed, inOrder, ascending, listFormed, look, push, measure, pop, offer}
+use Rattle.rules.proofs.Tests.{both, together}
 use Rattle.neighbor.specs.Holdable.{Holdable}
 use Rattle.neighbor.proofs.Bits.{holdable-fit}
 use Rattle.lists.specs.All.{All}
@@ -19,13 +20,6 @@ use Rattle.lists.specs.Ascending.{AllHoldable, NoneBefore, Ascending}
 use Rattle.lists.proofs.Laws.{later, holdable-insert, holdable-take, ascending-insert, ascending-take}
 
 -- ---- two tests that both hold
-
-pub both : (a b : Bool) → (a && b) ≡ true → (a ≡ true) × (b ≡ true)
-both true b e = (refl, e)
-both false b e = let z : _≡_ {A = ℕ} 0 1 = cc in absurd (omega arith)
-
-pub and-join : {a b : Bool} → a ≡ true → b ≡ true → (a && b) ≡ true
-and-join {a} {b} e f = rw (e, f)
 
 -- ---- "ascending", of neighbours in the list and of any two
 
@@ -50,7 +44,7 @@ ascending-of (x ∷ xs) X h = order-of x xs (X .0) (X .1) h
 of-order : (x : Neighbor) (ys : List Neighbor) → NoneBefore x ys → Ascending ys → inOrder x ys ≡ true
 unfolding inOrder
 of-order x [] n s = refl
-of-order x (y ∷ ys) n s = and-join (ap not (n .0)) (of-order y ys (s .0) (s .1))
+of-order x (y ∷ ys) n s = together _ _ (ap not (n .0)) (of-order y ys (s .0) (s .1))
 
 pub of-ascending : (l : List Neighbor) → Ascending l → ascending l ≡ true
 unfolding ascending
@@ -81,19 +75,19 @@ holdable-formed n (e ∷ es) F h =
 
 formed-insert : (n : ℕ) (e : Neighbor) (l : List Neighbor) → entryFormed n e ≡ true → entriesFormed n l ≡ true → entriesFormed n (insert e l) ≡ true
 unfolding entriesFormed insert
-formed-insert n e [] f h = and-join f refl
+formed-insert n e [] f h = together _ _ f refl
 formed-insert n e (x ∷ xs) f h = go (before e x) (formed-insert n e xs f (both (entryFormed n x) (entriesFormed n xs) h .1))
   where
     go : (b : Bool) → entriesFormed n (insert e xs) ≡ true → entriesFormed n (cond b (e ∷ x ∷ xs) (x ∷ insert e xs)) ≡ true
-    go true r = and-join f h
-    go false r = and-join (both (entryFormed n x) (entriesFormed n xs) h .0) r
+    go true r = together _ _ f h
+    go false r = together _ _ (both (entryFormed n x) (entriesFormed n xs) h .0) r
 
 formed-take : (n k : ℕ) (l : List Neighbor) → entriesFormed n l ≡ true → entriesFormed n (take k l) ≡ true
 unfolding entriesFormed
 formed-take n zero l h = refl
 formed-take n (suc k) [] h = refl
 formed-take n (suc k) (x ∷ xs) h =
-    let p = both (entryFormed n x) (entriesFormed n xs) h in and-join (p .0) (formed-take n k xs (p .1))
+    let p = both (entryFormed n x) (entriesFormed n xs) h in together _ _ (p .0) (formed-take n k xs (p .1))
 
 -- ---- a well-formed list of values of binary32, and each step
 
@@ -120,7 +114,7 @@ module _ {n : ℕ} {l : List Neighbor} (K : Kept n l) where
       let E = holdable-entry n e t f in
       record {
         holdable = holdable-insert e l E (K .holdable);
-        formed = and-join (of-ascending (insert e l) (ascending-insert e l E (K .holdable) kept-ascending)) (formed-insert n e l f entries-kept);
+        formed = together _ _ (of-ascending (insert e l) (ascending-insert e l E (K .holdable) kept-ascending)) (formed-insert n e l f entries-kept);
       }
 
   pub kept-take : (k : ℕ) → Kept n (take k l)
@@ -128,7 +122,7 @@ module _ {n : ℕ} {l : List Neighbor} (K : Kept n l) where
   kept-take k =
       record {
         holdable = holdable-take k l (K .holdable);
-        formed = and-join (of-ascending (take k l) (ascending-take k l kept-ascending)) (formed-take n k l entries-kept);
+        formed = together _ _ (of-ascending (take k l) (ascending-take k l kept-ascending)) (formed-take n k l entries-kept);
       }
 
   pub kept-pop : Kept n (pop l)
