@@ -10,6 +10,7 @@ use Rattle.rules.specs.Loops.{each, part}
 use Rattle.rules.specs.Descent.{Context}
 use Rattle.rules.specs.Places.{sameWords}
 use Rattle.rules.specs.DescentPlaces.{memberWords, contextWords, membersIn, contextIn, membersFormed, contextsFormed}
+use Rattle.rules.proofs.Tests.{and-assoc}
 use Rattle.encoded.proofs.Rows.{length-padded}
 use Rattle.encoded.proofs.Same.{same-words-append}
 use Rattle.members.proofs.Laws.{words-append}
@@ -18,10 +19,6 @@ use Rattle.zeros.proofs.Laws.{all-none, all-turn, all-not}
 use Rattle.descent_state.specs.State.{memberTest}
 
 -- ---- tests in another order
-
-and-assoc : (a b c : Bool) → ((a && b) && c) ≡ (a && (b && c))
-and-assoc true b c = refl
-and-assoc false b c = refl
 
 and-comm : (a b : Bool) → (a && b) ≡ (b && a)
 and-comm true true = refl

@@ -10,7 +10,7 @@ use lib.Ieee.{Float, binary32, toBits, ofBits, fits}
 use lib.Ieee.Bits.{ofBits-toBits}
 use borrow.Author.Tests.{eqb-true, eq-eqb}
 use Rattle.rules.specs.Places.{sameWords, sameFloats}
-use Rattle.rules.proofs.Tests.{both}
+use Rattle.rules.proofs.Tests.{both, and-assoc}
 use Rattle.encoded.specs.Words.{Binary32}
 
 -- ---- two tests at once
@@ -35,10 +35,6 @@ words-same (x ∷ xs) (y ∷ ys) h =
     let e = eqb-true x y (b .0) in
     let f = words-same xs ys (b .1) in
     (cc)
-
-and-assoc : (a b c : Bool) → ((a && b) && c) ≡ (a && (b && c))
-and-assoc true b c = refl
-and-assoc false b c = refl
 
 pub same-words-append : (xs ys zs ws : List ℕ) → length xs ≡ length ys → sameWords (xs ++ zs) (ys ++ ws) ≡ (sameWords xs ys && sameWords zs ws)
 unfolding sameWords

@@ -17,6 +17,7 @@ use Rattle.rules.specs.Distance.{before, fit}
 use Rattle.rules.specs.Lists.{neighbor, nodeOf, entries}
 use Rattle.rules.specs.Offers.{emptyBits, entryFormed, entriesFormed, inOrder, ascending, listFormed, listsFormed}
 use Rattle.rules.specs.Places.{listsIn}
+use Rattle.rules.proofs.Tests.{and-false}
 use Rattle.lists.proofs.Slices.{length-entries, getD-entries}
 
 -- ---- one entry
@@ -139,10 +140,6 @@ formed-append n (l ∷ a) b = go (listFormed n l) (formed-append n a b)
     go : (t : Bool) → listsFormed n (a ++ b) ≡ (listsFormed n a && listsFormed n b) → (t && listsFormed n (a ++ b)) ≡ ((t && listsFormed n a) && listsFormed n b)
     go true h = h
     go false h = refl
-
-and-false : (t : Bool) → (t && false) ≡ false
-and-false true = refl
-and-false false = refl
 
 module _ (n : ℕ) (g : ℕ → List Neighbor) where
   abbrev pub listsOf : ℕ → List (List Neighbor)

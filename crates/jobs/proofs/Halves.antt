@@ -8,6 +8,7 @@ use borrow.Author.Tests.{eq-eqb, ne-eqb}
 use lib.Dec.{eqb}
 use Rattle.rules.specs.Relay.{takenOf, longerOf, bit}
 use Rattle.rules.specs.RelayPlaces.{stageIn, stageFormed, pending}
+use Rattle.rules.proofs.Tests.{and-false}
 use Rattle.jobs.specs.Jobs.{halfFormed, PendingHalf}
 
 and-true : (b : Bool) → (b && true) ≡ b
@@ -33,10 +34,6 @@ half-flag equal (suc zero) taken longer h l = rw (ne-eqb taken 1 (λ q. omega ar
 half-flag equal (suc (suc zero)) taken longer h l = rw (ne-eqb taken 1 (λ q. omega arith), ne-eqb taken 0 (λ q. omega arith))
 half-flag equal (suc (suc (suc zero))) taken longer h l = rw (ne-eqb taken 1 (λ q. omega arith), ne-eqb taken 0 (λ q. omega arith))
 half-flag equal (suc (suc (suc (suc s)))) taken longer h l = rw (ne-eqb taken 1 (λ q. omega arith), ne-eqb taken 0 (λ q. omega arith))
-
-pub and-false : (b : Bool) → (b && false) ≡ false
-and-false true = refl
-and-false false = refl
 
 pub half-equal : (steps longer : ℕ) → 1 ≤ steps → halfFormed true steps 1 longer ≡ false
 unfolding halfFormed stageIn takenOf longerOf stageFormed

@@ -5,8 +5,9 @@ use mathlib.Core.Logic.{⊎-elim}
 use native.Mathlib.Omega.{arith}
 use borrow.Author.Tests.{ne-eqb}
 use lib.Dec.{eqb}
+use Rattle.rules.proofs.Tests.{and-false}
 use Rattle.jobs.specs.Jobs.{halfFormed}
-use Rattle.jobs.proofs.Halves.{half-fresh, half-early, half-flag, half-equal, half-looked, half-measured, and-false}
+use Rattle.jobs.proofs.Halves.{half-fresh, half-early, half-flag, half-equal, half-looked, half-measured}
 use Rattle.jobs.proofs.half_formed.Statement.{statement}
 use Rattle.jobs.proofs.half_formed.Tie as tie
 
