@@ -17,12 +17,9 @@ use Rattle.rules.specs.Refusals.{Row, code, passed, refused, decide, decisionOf
 use Rattle.rules.specs.Calls.{buildScratch, buildRows}
 use Rattle.rules.specs.BuildCall.{BuildLent, buildTable}
 use Rattle.rules.proofs.Tables.{passes, held, left, none-of, within}
+use Rattle.rules.proofs.Tests.{or-false}
 use Rattle.table.proofs.Rows.{by-answer, past-answer, gameRows}
 use Rattle.build.specs.Build.{Ready}
-
-last : (b : Bool) → b ≡ (b || false)
-last true = refl
-last false = refl
 
 -- ---- row 4
 
@@ -40,7 +37,7 @@ module _ (k w hops : ℕ) where
 
   pub wrong-hops : outside 1 64 k ≡ false → outside 1 64 w ≡ false → outside 1 256 hops ≡ anyOf holds ranges
   unfolding anyOf
-  wrong-hops e f = rw (e, f) (last (outside 1 256 hops))
+  wrong-hops e f = rw (e, f) (or-false (outside 1 256 hops))
 
 -- ---- row 5
 
@@ -73,7 +70,7 @@ module _ (n k w graph words floats : ℕ) where
 
   pub wrong-floats : graph ≡ n * w → buildScratch n k w ≤ words → ltb floats (buildScratch n k w) ≡ anyOf holds lengths
   unfolding anyOf
-  wrong-floats e h = rw (eq-eqb graph (n * w) e, le-ltb words (buildScratch n k w) h) (last (ltb floats (buildScratch n k w)))
+  wrong-floats e h = rw (eq-eqb graph (n * w) e, le-ltb words (buildScratch n k w) h) (or-false (ltb floats (buildScratch n k w)))
 
 -- ---- the rows in order
 

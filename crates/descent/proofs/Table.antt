@@ -16,11 +16,8 @@ use Rattle.rules.specs.Numbers.{outside}
 use Rattle.rules.specs.Refusals.{Row, code, passed, refused, decide, decisionOf, holds, row1, row2, row3, row4, row6, row10}
 use Rattle.rules.specs.Calls.{scratch, descentWords, taughtScratch, descentBuffers, descentRows}
 use Rattle.rules.proofs.Tables.{passes, held, left, none-of, within}
+use Rattle.rules.proofs.Tests.{or-false}
 use Rattle.table.proofs.Rows.{by-answer, past-answer, gameRows}
-
-last : (b : Bool) → b ≡ (b || false)
-last true = refl
-last false = refl
 
 -- ---- row 4
 
@@ -34,7 +31,7 @@ module _ (k s : ℕ) where
 
   pub wrong-s : outside 1 64 k ≡ false → outside 1 k s ≡ anyOf holds ranges
   unfolding anyOf
-  wrong-s e = rw e (last (outside 1 k s))
+  wrong-s e = rw e (or-false (outside 1 k s))
 
 -- ---- row 6
 
@@ -56,7 +53,7 @@ module _ (n k us fs words floats : ℕ) where
 
   pub wrong-last : us ≡ descentWords n k → fs ≡ n * k → taughtScratch n ≤ words → ltb floats (taughtScratch n) ≡ anyOf holds lengths
   unfolding anyOf
-  wrong-last e f g = rw (eq-eqb us (descentWords n k) e, eq-eqb fs (n * k) f, le-ltb words (taughtScratch n) g) (last (ltb floats (taughtScratch n)))
+  wrong-last e f g = rw (eq-eqb us (descentWords n k) e, eq-eqb fs (n * k) f, le-ltb words (taughtScratch n) g) (or-false (ltb floats (taughtScratch n)))
 
 -- ---- the rows in order
 

@@ -24,6 +24,7 @@ use Rattle.rules.specs.RelayPlaces.{stageFormed, pendingAt}
 use Rattle.rules.specs.RelayCall.{OpenLent, openTable, openedOn}
 use Rattle.rules.proofs.Loops.{first-before}
 use Rattle.rules.proofs.Tables.{within}
+use Rattle.rules.proofs.Tests.{neither}
 use Rattle.neighbor.specs.Holdable.{Holdable}
 use Rattle.neighbor.proofs.Bits.{holdable-zero, holdable-between}
 use Rattle.metrics.proofs.Fitness.{between-fit}
@@ -107,15 +108,11 @@ pub record Passed (l : OpenLent) : Type 0 where
   pub sizes : Sizes (l .n) (l .k)
   pub openable : Openable (l .n) (l .k) (listsIn (l .n) (l .k) (l .nodes) (l .distances)) (l .jobs)
 
-or-false : (a b : Bool) → (a || b) ≡ false → (a ≡ false) × (b ≡ false)
-or-false true b h = let z : _≡_ {A = ℕ} 0 1 = cc in absurd (omega arith)
-or-false false b h = (refl, h)
-
 -- "jobs row 9 passes"
 pub job-passes : (n : ℕ) (jobs : List ℕ) → (row9 n jobs) .test ≡ false → (i : ℕ) → i < jobCount jobs → badJob n jobs i ≡ false
 unfolding row9 firstBadJob
 job-passes n jobs h i l =
-    let p = or-false (outside 1 most (jobCount jobs)) (ltb (firstFrom (badJob n jobs) 0 (jobCount jobs)) (jobCount jobs)) h in
+    let p = neither (outside 1 most (jobCount jobs)) (ltb (firstFrom (badJob n jobs) 0 (jobCount jobs)) (jobCount jobs)) h in
     let m = ltb-false (firstFrom (badJob n jobs) 0 (jobCount jobs)) (jobCount jobs) (p .1) in
     first-before (badJob n jobs) 0 (jobCount jobs) i (omega arith) (omega arith)
 
@@ -151,7 +148,7 @@ passed-open l B h =
     let us = exactly (l .n * l .k) (length (l .nodes)) (lent .0) in
     let fs = exactly (l .n * l .k) (length (l .distances)) (lent .1 .0) in
     let nine = F .1 .1 .1 .1 .1 .0 in
-    let count = within 1 most (jobCount (l .jobs)) (or-false _ _ nine .0) in
+    let count = within 1 most (jobCount (l .jobs)) (neither _ _ nine .0) in
     record {
       sizes = record { nodes = F .1 .0; size = k-in };
       openable =
@@ -162,9 +159,9 @@ passed-open l B h =
             some = count .from;
             few = count .to;
             us = λ (i : ℕ) (b : i < jobCount (l .jobs)).
-                leb-false (l .n) (jobU (l .jobs) i) (or-false (leb (l .n) (jobU (l .jobs) i)) (leb (l .n) (jobV (l .jobs) i)) (job-passes (l .n) (l .jobs) nine i b) .0);
+                leb-false (l .n) (jobU (l .jobs) i) (neither (leb (l .n) (jobU (l .jobs) i)) (leb (l .n) (jobV (l .jobs) i)) (job-passes (l .n) (l .jobs) nine i b) .0);
             vs = λ (i : ℕ) (b : i < jobCount (l .jobs)).
-                leb-false (l .n) (jobV (l .jobs) i) (or-false (leb (l .n) (jobU (l .jobs) i)) (leb (l .n) (jobV (l .jobs) i)) (job-passes (l .n) (l .jobs) nine i b) .1);
+                leb-false (l .n) (jobV (l .jobs) i) (neither (leb (l .n) (jobU (l .jobs) i)) (leb (l .n) (jobV (l .jobs) i)) (job-passes (l .n) (l .jobs) nine i b) .1);
           };
     }
 

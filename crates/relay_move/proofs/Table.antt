@@ -17,6 +17,7 @@ use Rattle.rules.specs.Relay.{Relay, isFinished, jobAt}
 use Rattle.rules.specs.RelayPlaces.{relayIn, relayFormed}
 use Rattle.rules.specs.RelayCall.{MoveLent, relayOf, moveTable}
 use Rattle.rules.proofs.Tables.{passes, none-of, within}
+use Rattle.rules.proofs.Tests.{neither}
 use Rattle.encoded.specs.Words.{Binary32}
 use Rattle.relay_state.specs.State.{Sized}
 use Rattle.relay_state.proofs.Parts.{sizes}
@@ -145,10 +146,6 @@ pub record Ready (l : MoveLent) : Type 0 where
   pub present : l .job < length (relayOf l .jobs)
   pub unfinished : isFinished (jobAt (relayOf l) (l .job)) ≡ false
 
-either : (a b : Bool) → (a || b) ≡ false → (a ≡ false) × (b ≡ false)
-either true b e = let z : _≡_ {A = ℕ} 0 1 = cc in absurd (omega arith)
-either false b e = (refl, e)
-
 pub ready : (l : MoveLent) → decide (moveTable l) ≡ passed → Ready l
 unfolding moveTable moveRows row2 row4 row6 row12 row13
 ready l h =
@@ -158,7 +155,7 @@ ready l h =
     let p12 = passes _ _ (p6 .1) in
     let p13 = passes _ _ (p12 .1) in
     let w = none-of (outside 1 64 (l .k)) [] (p4 .0) in
-    let e = either (leb (length (relayOf l .jobs)) (l .job)) (isFinished (jobAt (relayOf l) (l .job))) (p13 .0) in
+    let e = neither (leb (length (relayOf l .jobs)) (l .job)) (isFinished (jobAt (relayOf l) (l .job))) (p13 .0) in
     record {
       sized = sized (l .n) (l .k) (l .job) (l .state-u) (l .state-f) (p2 .0) (w .0) (p6 .0);
       formed = not-false _ (p12 .0);

@@ -17,12 +17,9 @@ use Rattle.rules.specs.Refusals.{Row, code, passed, refused, decide, decisionOf
 use Rattle.rules.specs.Calls.{scratch, odd, relayWords, relayFloats, taughtScratch, openRows}
 use Rattle.rules.proofs.Loops.{first-before}
 use Rattle.rules.proofs.Tables.{passes, held, left, none-of, within}
+use Rattle.rules.proofs.Tests.{neither, or-false}
 use Rattle.table.proofs.Rows.{by-answer, past-answer, gameRows}
 use Rattle.relay_open.specs.Open.{JobsIn}
-
-last : (b : Bool) → b ≡ (b || false)
-last true = refl
-last false = refl
 
 -- ---- row 6
 
@@ -46,7 +43,7 @@ module _ (n k nodes distances jobs : ℕ) where
 
   pub wrong-jobs : nodes ≡ n * k → distances ≡ n * k → not (eqb (jobs % 2) 0) ≡ anyOf holds lists
   unfolding anyOf
-  wrong-jobs e f = rw (eq-eqb nodes (n * k) e, eq-eqb distances (n * k) f) (last (not (eqb (jobs % 2) 0)))
+  wrong-jobs e f = rw (eq-eqb nodes (n * k) e, eq-eqb distances (n * k) f) (or-false (not (eqb (jobs % 2) 0)))
 
   pub lists-long : anyOf holds lists ≡ false → (nodes ≡ n * k) × (distances ≡ n * k)
   lists-long h =
@@ -72,7 +69,7 @@ module _ (n k words floats su sf : ℕ) where
 
   pub wrong-last : words ≡ relayWords n k → floats ≡ relayFloats n k → taughtScratch n ≤ su → ltb sf (taughtScratch n) ≡ anyOf holds places
   unfolding anyOf
-  wrong-last e f g = rw (eq-eqb words (relayWords n k) e, eq-eqb floats (relayFloats n k) f, le-ltb su (taughtScratch n) g) (last (ltb sf (taughtScratch n)))
+  wrong-last e f g = rw (eq-eqb words (relayWords n k) e, eq-eqb floats (relayFloats n k) f, le-ltb su (taughtScratch n) g) (or-false (ltb sf (taughtScratch n)))
 
 -- ---- the rows in order
 
@@ -159,19 +156,15 @@ good-job : (n : ℕ) (jobs : List ℕ) (i : ℕ) → i < jobCount jobs → jobCo
 unfolding firstBadJob
 good-job n jobs i l h = first-before (badJob n jobs) 0 (jobCount jobs) i (omega arith) (omega arith)
 
-both : (a b : Bool) → (a || b) ≡ false → (a ≡ false) × (b ≡ false)
-both true b e = let z : _≡_ {A = ℕ} 0 1 = cc in absurd (omega arith)
-both false b e = (refl, e)
-
 pub jobs-in : (n : ℕ) (jobs : List ℕ) → row9 n jobs .test ≡ false → JobsIn n jobs
 unfolding row9 badJob
 jobs-in n jobs h =
-    let p = both (outside 1 64 (jobCount jobs)) (ltb (firstBadJob n jobs) (jobCount jobs)) h in
+    let p = neither (outside 1 64 (jobCount jobs)) (ltb (firstBadJob n jobs) (jobCount jobs)) h in
     let m = ltb-false (firstBadJob n jobs) (jobCount jobs) (p .1) in
     record {
       few = within 1 64 (jobCount jobs) (p .0) .to;
-      us = λ (i : ℕ) (l : i < jobCount jobs). leb-false n (jobU jobs i) (both (leb n (jobU jobs i)) (leb n (jobV jobs i)) (good-job n jobs i l m) .0);
-      vs = λ (i : ℕ) (l : i < jobCount jobs). leb-false n (jobV jobs i) (both (leb n (jobU jobs i)) (leb n (jobV jobs i)) (good-job n jobs i l m) .1);
+      us = λ (i : ℕ) (l : i < jobCount jobs). leb-false n (jobU jobs i) (neither (leb n (jobU jobs i)) (leb n (jobV jobs i)) (good-job n jobs i l m) .0);
+      vs = λ (i : ℕ) (l : i < jobCount jobs). leb-false n (jobV jobs i) (neither (leb n (jobU jobs i)) (leb n (jobV jobs i)) (good-job n jobs i l m) .1);
     }
 
 pub jobs-passed : {n : ℕ} {jobs : List ℕ} {j : Answer} → decisionOf j ≡ decide (row9 n jobs ∷ []) → j ≡ Done → JobsIn n jobs

@@ -17,6 +17,7 @@ use Rattle.rules.specs.Calls.{scratch, searchScratch, searchRows}
 use Rattle.rules.specs.SearchCall.{SearchLent, searchTable}
 use Rattle.rules.proofs.Loops.{first-before}
 use Rattle.rules.proofs.Tables.{goes-on, stops, passes, held, left, none-of, within}
+use Rattle.rules.proofs.Tests.{neither}
 use Rattle.table.proofs.Rows.{by-answer, past-answer, gameRows}
 use Rattle.walk.specs.Walks.{Roots}
 use Rattle.search.specs.Search.{Ready}
@@ -117,18 +118,13 @@ good-root : (n : ℕ) (roots : List ℕ) (i : ℕ) → i < length roots → leng
 unfolding firstBadRoot
 good-root n roots i l h = first-before (badRoot n roots) 0 (length roots) i (omega arith) (omega arith)
 
--- a root that is not bad is below n, and no earlier one
-both : (a b : Bool) → (a || b) ≡ false → (a ≡ false) × (b ≡ false)
-both true b e = let z : _≡_ {A = ℕ} 0 1 = cc in absurd (omega arith)
-both false b e = (refl, e)
-
 root-below : (n : ℕ) (roots : List ℕ) (i : ℕ) → badRoot n roots i ≡ false → getD roots i 0 < n
 unfolding badRoot
-root-below n roots i e = leb-false n (getD roots i 0) (both (leb n (getD roots i 0)) (has (getD roots i 0) (take i roots)) e .0)
+root-below n roots i e = leb-false n (getD roots i 0) (neither (leb n (getD roots i 0)) (has (getD roots i 0) (take i roots)) e .0)
 
 root-new : (n : ℕ) (roots : List ℕ) (i : ℕ) → badRoot n roots i ≡ false → has (getD roots i 0) (take i roots) ≡ false
 unfolding badRoot
-root-new n roots i e = both (leb n (getD roots i 0)) (has (getD roots i 0) (take i roots)) e .1
+root-new n roots i e = neither (leb n (getD roots i 0)) (has (getD roots i 0) (take i roots)) e .1
 
 roots-of : (n : ℕ) (roots : List ℕ) → row7 n roots .test ≡ false → Roots n roots
 unfolding row7
