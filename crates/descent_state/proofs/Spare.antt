@@ -11,6 +11,7 @@ use lib.ListN.{length, List·getD-eq-default}
 use Rattle.rules.specs.Loops.{each}
 use Rattle.rules.specs.Places.{sameWords}
 use Rattle.rules.specs.DescentPlaces.{bitAt, pairWords}
+use Rattle.rules.proofs.Tests.{same-truth}
 use Rattle.bits.specs.Bits.{Words}
 use Rattle.bits.proofs.Laws.{words-told}
 use Rattle.encoded.proofs.Same.{same-words, words-same}
@@ -32,12 +33,6 @@ square n few =
 -- a bit that is there
 pub bit-in : (n c p : ℕ) → p < 32 * c → p / 32 < c
 bit-in n c p h = omega arith
-
--- either test holds when the other does
-same-test : (a b : Bool) → (a ≡ true → b ≡ true) → (b ≡ true → a ≡ true) → a ≡ b
-same-test true b f g = sym (f refl)
-same-test false true f g = g refl
-same-test false false f g = refl
 
 module _ (n : ℕ) (us : List ℕ) (long : length us ≡ marks n) (words : Words us) (few : n ≤ 1024) where
   abbrev told : List Bool
@@ -77,7 +72,7 @@ module _ (n : ℕ) (us : List ℕ) (long : length us ≡ marks n) (words : Words
 
   pub bits-are : sameWords us (pairWords (marks n) told) ≡ allBelow clear spare
   bits-are =
-      same-test (sameWords us (pairWords (marks n) told)) (allBelow clear spare) (λ e. clear-of (words-same us (pairWords (marks n) told) e))
+      same-truth (sameWords us (pairWords (marks n) told)) (allBelow clear spare) (λ e. clear-of (words-same us (pairWords (marks n) told) e))
       (λ e. same-words us (pairWords (marks n) told)
       (words-told us (pairWords (marks n) told) (long ∙ sym (length-pairs (marks n) told)) words (pairs-words (marks n) told) (bit-same e)))
 

@@ -13,17 +13,11 @@ use Rattle.rules.specs.Distance.{fit}
 use Rattle.rules.specs.Relay.{Stage, stepsOf, takenOf, longerOf, bit}
 use Rattle.rules.specs.Places.{padded, sameWords}
 use Rattle.rules.specs.RelayPlaces.{jobWords, jobIn, stageIn, stageFormed, jobFormed, pending}
-use Rattle.rules.proofs.Tests.{both, together}
+use Rattle.rules.proofs.Tests.{both, together, same-truth}
 use Rattle.zeros.specs.Zeros.{zeros}
 use Rattle.jobs.specs.Jobs.{halfFormed, distanceFormed, jobTest, PendingHalf, PendingJob}
 
 -- ---- two tests that hold of the same are one
-
-pub same-truth : (a b : Bool) → (a ≡ true → b ≡ true) → (b ≡ true → a ≡ true) → a ≡ b
-same-truth true true f g = refl
-same-truth true false f g = sym (f refl)
-same-truth false true f g = g refl
-same-truth false false f g = refl
 
 -- ---- the steps done of both halves add up to those of the job, where those are at most 8
 

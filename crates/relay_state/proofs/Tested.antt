@@ -20,7 +20,7 @@ use Rattle.rules.specs.Relay.{Job, Relay, noJob}
 use Rattle.rules.specs.Places.{padded, sameWords}
 use Rattle.rules.specs.RelayPlaces.{roomWords, roomFloats, lengthsOf, jobWords, jobsWords, jobsFloats, jobIn, jobFormed, pendingAt, relayIn, relayState, relayStateFloats, relayFormed}
 use Rattle.rules.proofs.Tables.{within}
-use Rattle.rules.proofs.Tests.{both}
+use Rattle.rules.proofs.Tests.{both, same-truth}
 use Rattle.lists.proofs.Plain.{all-take}
 use Rattle.lists.proofs.Slices.{length-entries, nodesOf-entries, distancesOf-entries}
 use Rattle.encoded.specs.Words.{Binary32, joined}
@@ -31,7 +31,6 @@ use Rattle.encoded.proofs.Jobs.{jobs-words, jobs-floats, length-jobsWords, leng
 use Rattle.zeros.specs.Zeros.{zeros, allBelow}
 use Rattle.zeros.proofs.Laws as all
 use Rattle.jobs.specs.Jobs.{jobTest}
-use Rattle.jobs.proofs.Laws.{same-truth}
 use Rattle.relay_state.specs.State.{Sized, jobsTest, roomTest, roomAt}
 use Rattle.relay_state.proofs.Zeroed.{zeros-are, floats-are, all-drop}
 use Rattle.relay_state.proofs.Parts.{lent-from, sizes, from-jobs, inside}
