@@ -12,9 +12,9 @@ use Rattle.rules.specs.Loops.{each}
 use Rattle.rules.specs.Places.{padded}
 use Rattle.rules.specs.Descent.{drawn, drawsFrom, beginContext}
 use Rattle.rules.specs.DescentPlaces.{memberWords, contextWords}
+use Rattle.rules.proofs.Loops.{length-ones}
 use Rattle.buffers.proofs.Places.{length-area, put-length}
 use Rattle.members.proofs.Laws.{length-memberWords, words-append}
-use Rattle.visits.proofs.Flags.{length-ones}
 
 -- ---- a list of draws
 

@@ -14,11 +14,12 @@ use Rattle.rules.specs.Lists.{nodeOf, nodesOf}
 use Rattle.rules.specs.Offers.{entryFormed, entriesFormed, ascending, listFormed}
 use Rattle.rules.specs.Descent.{Context, listAt, drawn, drawsFrom, beginContext, isVisited, newOf, oldOf, swap, shuffleFrom, shuffle, keptNew, keptBack, Renewed, renew, renewAll, membersBack, reversedOld, reversedNew, contextOf}
 use Rattle.rules.proofs.Tests.{both}
+use Rattle.rules.proofs.Loops.{length-ones}
 use Rattle.lists.specs.All.{All}
 use Rattle.lists.proofs.Plain.{all-append, all-take}
 use Rattle.shuffles.proofs.Laws.{length-shuffle}
 use Rattle.steps.proofs.Formed.{Kept}
-use Rattle.encoded.proofs.Rows.{length-ones, all-ones, all-drop, all-getD}
+use Rattle.encoded.proofs.Rows.{all-ones, all-drop, all-getD}
 use Rattle.relay_kept.proofs.Jobs.{all-set}
 use Rattle.descent_kept.specs.Formed.{Each, Few, Below}
 use Rattle.descent_kept.proofs.Lists.{turns-keeps, Lists}

@@ -16,6 +16,7 @@ use Rattle.rules.specs.Rows.{emptySlot, emptyDistance}
 use Rattle.rules.specs.Offers.{unfilled, emptyBits, entryFormed, entriesFormed, listFormed}
 use Rattle.rules.specs.Descent.{Descent, beginContext, begun, Met, meetAll, unvisit, renewAll, unvisitAll, contextOf, renewed, iterated}
 use Rattle.rules.proofs.Tests.{together}
+use Rattle.rules.proofs.Loops.{length-ones}
 use Rattle.neighbor.specs.Holdable.{Holdable}
 use Rattle.neighbor.proofs.Bits.{holdable-empty}
 use Rattle.neighbor.proofs.Order.{irreflexive}
@@ -23,7 +24,7 @@ use Rattle.lists.specs.Ascending.{AllHoldable, NoneBefore, Ascending}
 use Rattle.lists.specs.All.{All}
 use Rattle.lists.proofs.Plain.{all-at, all-of, all-weaker}
 use Rattle.steps.proofs.Formed.{of-ascending, Kept}
-use Rattle.encoded.proofs.Rows.{length-ones, all-ones}
+use Rattle.encoded.proofs.Rows.{all-ones}
 use Rattle.descent_kept.specs.Formed.{Each, Few, Below, Formed}
 use Rattle.descent_kept.proofs.Lists.{through-keeps, turns-keeps, Lists, Meeting, all-meet}
 use Rattle.descent_kept.proofs.Contexts.{Good, good-begin, good-context, few-each, below-each, all-renewed}

@@ -18,13 +18,14 @@ use Rattle.rules.specs.Descent.{Context, Descent, listAt}
 use Rattle.rules.specs.Places.{sameWords, sameFloats, listFloats, listsIn}
 use Rattle.rules.specs.DescentPlaces.{descentState, membersIn, contextIn, bitAt, descentIn, membersFormed, contextsFormed, descentFormed}
 use Rattle.rules.proofs.Tests.{both, together}
+use Rattle.rules.proofs.Loops.{length-ones}
 use Rattle.lists.specs.All.{All}
 use Rattle.lists.proofs.Plain.{all-append}
 use Rattle.lists.proofs.Slices.{length-entries}
 use Rattle.steps.proofs.Formed.{kept-of}
 use Rattle.encoded.specs.Words.{Binary32}
 use Rattle.encoded.proofs.Same.{same-words, words-same, same-floats, floats-same}
-use Rattle.encoded.proofs.Rows.{length-ones, all-ones, length-part-of, all-part, all-getD}
+use Rattle.encoded.proofs.Rows.{all-ones, length-part-of, all-part, all-getD}
 use Rattle.relay_kept.proofs.Lists.{binary-each, lists-formed, formed-lists}
 use Rattle.relay_kept.proofs.Tested.{binary-entries}
 use Rattle.descent_kept.specs.Formed.{Each, Few, Below, Fitting, Formed}

@@ -12,13 +12,14 @@ use Rattle.rules.specs.Loops.{each}
 use Rattle.rules.specs.Places.{sameWords}
 use Rattle.rules.specs.DescentPlaces.{bitAt, pairWords}
 use Rattle.rules.proofs.Tests.{same-truth}
+use Rattle.rules.proofs.Loops.{length-ones, getD-ones}
 use Rattle.bits.specs.Bits.{Words}
 use Rattle.bits.proofs.Laws.{words-told}
 use Rattle.encoded.proofs.Same.{same-words, words-same}
 use Rattle.zeros.specs.Zeros.{allBelow}
 use Rattle.zeros.proofs.Laws.{all-none, all-turn, all-at, all-of, all-not}
 use Rattle.visits.specs.Marks.{marks}
-use Rattle.visits.proofs.Flags.{length-ones, getD-ones, length-pairs, pairs-words, pairs-bit}
+use Rattle.visits.proofs.Flags.{length-pairs, pairs-words, pairs-bit}
 
 pub record Square (n : ℕ) : Type 0 where
   pub pairs : n * n ≤ 1048576

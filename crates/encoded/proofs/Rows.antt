@@ -11,7 +11,7 @@ use lib.Seq.{length-take-le, take-at, drop-at, drop-drop, getD-at, getD-drop, ta
 use borrow.Author.Tests.{ltb-true, ltb-false}
 use Rattle.rules.specs.Loops.{each, part, putPart}
 use Rattle.rules.specs.Places.{padded}
-use Rattle.rules.proofs.Loops.{length-each}
+use Rattle.rules.proofs.Loops.{length-each, length-ones}
 use Rattle.lists.specs.All.{All}
 use Rattle.lists.proofs.Plain.{all-append, all-take}
 use Rattle.encoded.specs.Words.{joined, Rows}
@@ -42,28 +42,6 @@ module _ {A : Type 0} where
   -- ---- one for each of the places below m
 
   module _ (f : ℕ → A) where
-    pub length-ones : (m : ℕ) → length (each (λ (i : ℕ). f i ∷ []) m) ≡ m
-    length-ones m = length-each (λ (i : ℕ). f i ∷ []) 1 (λ (i : ℕ). refl) m ∙ omega arith
-
-    pub getD-ones : (m i : ℕ) (z : A) → i < m → getD (each (λ (i : ℕ). f i ∷ []) m) i z ≡ f i
-    unfolding each
-    getD-ones zero i z h = absurd (not-suc-le-zero h)
-    getD-ones (suc m) i z h = go (ltb i m) refl (getD-ones m i z)
-      where
-        e : length (each (λ (i : ℕ). f i ∷ []) m) ≡ m
-        e = length-ones m
-
-        go : (b : Bool) → ltb i m ≡ b → (i < m → getD (each (λ (i : ℕ). f i ∷ []) m) i z ≡ f i)
-            → getD (each (λ (i : ℕ). f i ∷ []) m ++ (f m ∷ [])) i z ≡ f i
-        go true t ih =
-            let l = ltb-true i m t in
-            let e' = e in
-            List·getD-append (each (λ (i : ℕ). f i ∷ []) m) (f m ∷ []) z i (omega arith) ∙ ih l
-        go false t ih =
-            let l = ltb-false i m t in
-            let q : m ≡ i = omega arith in
-            getD-at (each (λ (i : ℕ). f i ∷ []) m) (f m) [] z i (e ∙ q) ∙ ap f q
-
     pub all-ones : (P : A → Type 0) (m : ℕ) → ((i : ℕ) → i < m → P (f i)) → All P (each (λ (i : ℕ). f i ∷ []) m)
     unfolding each
     all-ones P zero h = tt

@@ -19,8 +19,8 @@ use Rattle.rules.specs.Rows.{emptyDistance}
 use Rattle.neighbor.specs.Holdable.{Holdable}
 use Rattle.neighbor.proofs.Bits.{holdable-empty, holdable-between, bits-lt}
 use Rattle.neighbor.proofs.Order.{asymmetric}
-use Rattle.kernels.proofs.Laws.{length-ones, getD-ones}
 use Rattle.rules.specs.Build.{Between, entry, others, exactList}
+use Rattle.rules.proofs.Loops.{length-ones, getD-ones}
 use Rattle.lists.specs.All.{All}
 use Rattle.lists.specs.Lists.{PushedCut}
 use Rattle.lists.specs.Ascending.{AllHoldable, Ascending}

@@ -14,11 +14,11 @@ use Rattle.rules.specs.Build.{Between}
 use Rattle.rules.specs.Descent.{Descent, Met, listAt, renewed, iterated}
 use Rattle.rules.specs.Places.{listWords, listFloats, listsIn}
 use Rattle.rules.specs.DescentPlaces.{contextWords, pairWords, descentState, descentIn}
+use Rattle.rules.proofs.Loops.{getD-ones}
 use Rattle.neighbor.proofs.Bits.{holdable-between}
 use Rattle.metrics.proofs.Fitness.{between-fit}
 use Rattle.lists.specs.All.{All}
 use Rattle.lists.proofs.Slices.{nodesOf-entries}
-use Rattle.encoded.proofs.Rows.{getD-ones}
 use Rattle.buffers.specs.Area.{area}
 use Rattle.visits.specs.Marks as visits
 use Rattle.meets.specs.Meets.{marksAt, Game}

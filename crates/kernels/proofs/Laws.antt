@@ -13,32 +13,13 @@ use lib.Ieee.Compare.{differs-from-itself}
 use borrow.Author.Tests.{ltb-true, ltb-false, lt-ltb, le-ltb, eqb-true, eqb-false}
 use Rattle.rules.specs.Loops.{each}
 use Rattle.rules.specs.Distance.{lane, totalOf, fit, answer, carried, zero32, lanesOf}
+use Rattle.rules.proofs.Loops.{length-ones, getD-ones}
 use Rattle.metrics.proofs.Steps.{turn, ended}
 use Rattle.kernels.specs.Eight.{column, held, PutRow, Holds, Laned, Totals, AllFit}
 
 -- ---- one of each, side by side
 
 module _ {A : Type 0} (f : ℕ → A) where
-  pub length-ones : (n : ℕ) → length (each (λ (i : ℕ). f i ∷ []) n) ≡ n
-  unfolding each
-  length-ones zero = refl
-  length-ones (suc n) = let h = length-ones n in length-append (each (λ (i : ℕ). f i ∷ []) n) (f n ∷ []) ∙ omega arith
-
-  pub getD-ones : (n i : ℕ) (z : A) → i < n → getD (each (λ (j : ℕ). f j ∷ []) n) i z ≡ f i
-  unfolding each
-  getD-ones zero i z h = absurd (not-suc-le-zero h)
-  getD-ones (suc n) i z h = go (ltb i n) refl (getD-ones n i z)
-    where
-      go : (b : Bool) → ltb i n ≡ b → (i < n → getD (each (λ (j : ℕ). f j ∷ []) n) i z ≡ f i) → getD (each (λ (j : ℕ). f j ∷ []) n ++ (f n ∷ [])) i z ≡ f i
-      go true e ih =
-          let l = ltb-true i n e in
-          let m = length-ones n in
-          List·getD-append (each (λ (j : ℕ). f j ∷ []) n) (f n ∷ []) z i (omega arith) ∙ ih l
-      go false e ih =
-          let l = ltb-false i n e in
-          let one : n ≡ i = omega arith in
-          getD-at (each (λ (j : ℕ). f j ∷ []) n) (f n) [] z i (length-ones n ∙ one) ∙ ap f one
-
 -- ---- a column
 
 pub length-column : (t d : ℕ) (block : List Float) → length (column t d block) ≡ d

@@ -15,9 +15,10 @@ use lib.Ieee.{Float}
 use Rattle.rules.specs.Loops.{each, part}
 use Rattle.rules.specs.Lists.{entries}
 use Rattle.rules.specs.Places.{listsIn}
+use Rattle.rules.proofs.Loops.{length-ones, getD-ones, ones}
 use Rattle.lists.proofs.Plain.{drop-later}
 use Rattle.buffers.proofs.Places.{put-area, put-low, put-high}
-use Rattle.visits.proofs.Flags.{ones, length-ones, getD-ones, getD-changed}
+use Rattle.visits.proofs.Flags.{getD-changed}
 
 -- functions that are the same below n give the same entries
 pub ones-same : {A : Type 0} (f g : ℕ → A) (n : ℕ) → ((i : ℕ) → i < n → f i ≡ g i) → ones f n ≡ ones g n

@@ -12,7 +12,7 @@ use Rattle.rules.specs.Loops.{each}
 use Rattle.rules.specs.Distance.{between}
 use Rattle.rules.specs.Relay.{stepsOf, Job, Relay, isFinished, noJob, jobAt, jobOf, opened, moved}
 use Rattle.rules.specs.RelayCall.{OpenLent, openedOn}
-use Rattle.encoded.proofs.Rows.{length-ones, getD-ones}
+use Rattle.rules.proofs.Loops.{length-ones, getD-ones}
 use Rattle.relay_kept.specs.Halves.{halfAt, jobAfter}
 use Rattle.orders.specs.Runs.{ran, count, stepsDone}
 use Rattle.orders.specs.Demand3.{pairs, Finishes, inTurn}

@@ -22,7 +22,7 @@ use Rattle.rules.specs.Relay.{fresh, Job, jobOf, opened}
 use Rattle.rules.specs.Places.{listsIn}
 use Rattle.rules.specs.RelayPlaces.{stageFormed, pendingAt}
 use Rattle.rules.specs.RelayCall.{OpenLent, openTable, openedOn}
-use Rattle.rules.proofs.Loops.{first-before}
+use Rattle.rules.proofs.Loops.{first-before, length-ones, getD-ones}
 use Rattle.rules.proofs.Tables.{within}
 use Rattle.rules.proofs.Tests.{neither}
 use Rattle.neighbor.specs.Holdable.{Holdable}
@@ -31,7 +31,7 @@ use Rattle.metrics.proofs.Fitness.{between-fit}
 use Rattle.lists.specs.All.{All}
 use Rattle.lists.proofs.Slices.{length-entries}
 use Rattle.encoded.specs.Words.{Binary32}
-use Rattle.encoded.proofs.Rows.{length-ones, getD-ones, all-ones, length-part, all-part}
+use Rattle.encoded.proofs.Rows.{all-ones, length-part, all-part}
 use Rattle.relay_kept.specs.Formed.{ListFormed, JobFormed, Formed}
 use Rattle.relay_kept.specs.Calls.{Sizes}
 use Rattle.relay_kept.proofs.Rows.{all-fail, none-hold, exactly}

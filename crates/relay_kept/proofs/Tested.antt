@@ -22,11 +22,12 @@ use Rattle.rules.specs.Places.{sameWords, sameFloats, padded}
 use Rattle.rules.specs.RelayPlaces.{roomFloats, jobsFloats, relayState, relayStateFloats, jobIn, relayIn, jobFormed, jobsFormed, pendingAt, lengthsFormed, relayFormed}
 use Rattle.rules.proofs.Tables.{within}
 use Rattle.rules.proofs.Tests.{both, together}
+use Rattle.rules.proofs.Loops.{length-ones}
 use Rattle.lists.specs.All.{All}
 use Rattle.lists.proofs.Plain.{all-append, all-of}
 use Rattle.encoded.specs.Words.{Binary32, Readable, Fitting}
 use Rattle.encoded.proofs.Same.{same-words, words-same, same-floats, floats-same}
-use Rattle.encoded.proofs.Rows.{length-ones, all-ones, all-part, all-getD}
+use Rattle.encoded.proofs.Rows.{all-ones, all-part, all-getD}
 use Rattle.encoded.proofs.Jobs.{job-readable}
 use Rattle.encoded.proofs.Back.{relay-back}
 use Rattle.relay_kept.specs.Formed.{JobFormed, Formed}

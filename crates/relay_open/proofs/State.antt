@@ -17,12 +17,13 @@ use Rattle.rules.specs.Build.{Between}
 use Rattle.rules.specs.Relay.{Job, Relay, jobOf, opened}
 use Rattle.rules.specs.Places.{padded, listsIn}
 use Rattle.rules.specs.RelayPlaces.{roomWords, roomFloats, lengthsOf, jobsWords, jobsFloats, relayState, relayStateFloats}
+use Rattle.rules.proofs.Loops.{length-ones, getD-ones}
 use Rattle.lists.proofs.Slices.{length-entries, nodesOf-entries, distancesOf-entries}
 use Rattle.buffers.proofs.Places.{put-length}
 use Rattle.encoded.proofs.Lists.{room-words, room-floats, wordRow, floatRow, length-lengths, length-at}
 use Rattle.relay_state.specs.State.{Sized}
 use Rattle.relay_state.proofs.Parts.{Sizes, sizes}
-use Rattle.relay_state.proofs.Reading.{length-ones, getD-ones, joined-ones}
+use Rattle.relay_state.proofs.Reading.{joined-ones}
 use Rattle.relay_open.specs.Open.{firstJobs, JobsWritten, ListsPut, DistsPut, StateWritten}
 use Rattle.relay_open.proofs.Rooms.{rooms-long}
 

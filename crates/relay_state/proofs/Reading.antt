@@ -17,36 +17,17 @@ use Rattle.rules.specs.Lists.{entries, distancesOf}
 use Rattle.rules.specs.Relay.{Job, Relay, noJob}
 use Rattle.rules.specs.Places.{padded}
 use Rattle.rules.specs.RelayPlaces.{roomFloats, jobsFloats, jobIn, relayIn, relayStateFloats}
-use Rattle.rules.proofs.Loops.{length-each, part-each}
+use Rattle.rules.proofs.Loops.{length-each, part-each, length-ones, getD-ones, ones}
 use Rattle.lists.specs.All.{All}
 use Rattle.lists.proofs.Plain.{all-take, all-append}
 use Rattle.encoded.specs.Words.{Binary32, joined, Readable, Fitting}
 use Rattle.encoded.proofs.Jobs.{job-readable}
+use Rattle.encoded.proofs.Rows.{all-ones}
 use Rattle.relay_state.proofs.Zeroed.{all-drop, binary-entries, binary-rooms, binary-jobs}
 
 -- ---- one for each place
 
 module _ {A : Type 0} (f : ℕ → A) where
-  abbrev pub ones : ℕ → List A
-  ones m = each (λ (i : ℕ). f i ∷ []) m
-
-  pub length-ones : (m : ℕ) → length (ones m) ≡ m
-  length-ones m = length-each (λ (i : ℕ). f i ∷ []) 1 (λ (q : ℕ). refl) m ∙ mul-one m
-
-  pub getD-ones : (m i : ℕ) (z : A) → i < m → getD (ones m) i z ≡ f i
-  unfolding part
-  getD-ones m i z h =
-      let e = mul-one i in
-      let p : take 1 (drop (i * 1) (ones m)) ≡ f i ∷ [] = part-each (λ (i : ℕ). f i ∷ []) 1 (λ (q : ℕ). refl) i m h in
-      let at : i * 1 + 0 ≡ i = omega arith in
-      ap (λ (j : ℕ). getD (ones m) j z) (sym at) ∙ sym (getD-drop (i * 1) (ones m) 0 z)
-      ∙ sym (getD-take 1 (drop (i * 1) (ones m)) 0 z (omega arith)) ∙ ap (λ (l : List A). getD l 0 z) p
-
-  pub all-ones : (P : A → Type 0) (m : ℕ) → ((i : ℕ) → i < m → P (f i)) → All P (ones m)
-  unfolding each
-  all-ones P zero h = tt
-  all-ones P (suc m) h = all-append P (ones m) (f m ∷ []) (all-ones P m (λ (i : ℕ) (l : i < m). h i (omega arith))) (h m (omega arith), tt)
-
 -- rows that are made of the ones, one behind the other
 joined-append : {A : Type 0} (a b : List (List A)) → joined (a ++ b) ≡ joined a ++ joined b
 unfolding joined

@@ -21,6 +21,7 @@ use Rattle.rules.specs.Places.{padded, sameWords}
 use Rattle.rules.specs.RelayPlaces.{roomWords, roomFloats, lengthsOf, jobWords, jobsWords, jobsFloats, jobIn, jobFormed, pendingAt, relayIn, relayState, relayStateFloats, relayFormed}
 use Rattle.rules.proofs.Tables.{within}
 use Rattle.rules.proofs.Tests.{both, same-truth}
+use Rattle.rules.proofs.Loops.{ones}
 use Rattle.lists.proofs.Plain.{all-take}
 use Rattle.lists.proofs.Slices.{length-entries, nodesOf-entries, distancesOf-entries}
 use Rattle.encoded.specs.Words.{Binary32, joined}
@@ -34,7 +35,7 @@ use Rattle.jobs.specs.Jobs.{jobTest}
 use Rattle.relay_state.specs.State.{Sized, jobsTest, roomTest, roomAt}
 use Rattle.relay_state.proofs.Zeroed.{zeros-are, floats-are, all-drop}
 use Rattle.relay_state.proofs.Parts.{lent-from, sizes, from-jobs, inside}
-use Rattle.relay_state.proofs.Reading.{ones, joined-ones, parts-front, listOf, jobOf, jobsLong, lists-long, jobs-long, list-at, job-at}
+use Rattle.relay_state.proofs.Reading.{joined-ones, parts-front, listOf, jobOf, jobsLong, lists-long, jobs-long, list-at, job-at}
 use Rattle.relay_state.proofs.Whole.{Facts, facts, formed, tests-hold}
 
 -- ---- one room

@@ -12,6 +12,7 @@ use Rattle.rules.specs.Loops.{each, over}
 use Rattle.rules.specs.Calls.{descentWords}
 use Rattle.rules.specs.Descent.{Context, Met, Renewed, renewAll, membersBack, drawnAfter, keptBack, reversedOld, reversedNew, contextOf, renewed}
 use Rattle.rules.specs.DescentPlaces.{memberWords, contextWords, pairWords}
+use Rattle.rules.proofs.Loops.{length-ones, getD-ones}
 use Rattle.buffers.specs.Area.{area}
 use Rattle.buffers.proofs.Places.{length-area, put-length, put-area, put-front, put-high}
 use Rattle.visits.specs.Marks as visits
@@ -21,7 +22,6 @@ use Rattle.members.proofs.Contexts.{noContext, Four, contexts-told}
 use Rattle.backs.specs.Backs.{Lengths, backs, PutBack, Reversed}
 use Rattle.renews.specs.Renews.{Lists, RenewedIn, Renews}
 use Rattle.unvisits.specs.Unvisits.{unvisitEach, News}
-use Rattle.encoded.proofs.Rows.{length-ones, getD-ones}
 use Rattle.descent_kept.proofs.Contexts.{Renewing, all-renewed}
 use Rattle.renewals.specs.Renewals.{Ready, Held, renewedOf, ListsRenewed, StateRenewed}
 use Rattle.renewals.proofs.Counts.{drawn-few, olds-few, news-few}

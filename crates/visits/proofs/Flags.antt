@@ -13,35 +13,13 @@ use lib.Seq.{getD-set-same, getD-set-other, getD-take, getD-drop, getD-at, ext-g
 use Rattle.rules.specs.Loops.{each}
 use Rattle.rules.specs.Relay.{bit}
 use Rattle.rules.specs.DescentPlaces.{wordOf, pairWords, bitAt}
+use Rattle.rules.proofs.Loops.{length-ones, getD-ones, ones}
 use Rattle.bits.specs.Bits.{setBit, clearBit, Words}
 use Rattle.bits.proofs.Laws.{bitOf, bit-half, bitAt-set, bitAt-clear, length-setBit, length-clearBit, words-setBit, words-clearBit, words-told}
 
 -- ---- one entry for each number
 
 module _ {A : Type 0} (f : ℕ → A) where
-  abbrev pub ones : ℕ → List A
-  ones n = each (λ (i : ℕ). f i ∷ []) n
-
-  pub length-ones : (n : ℕ) → length (ones n) ≡ n
-  unfolding each
-  length-ones zero = refl
-  length-ones (suc n) = let e = length-ones n in length-append (ones n) (f n ∷ []) ∙ omega arith
-
-  pub getD-ones : (n i : ℕ) (z : A) → i < n → getD (ones n) i z ≡ f i
-  unfolding each
-  getD-ones zero i z h = absurd (omega arith)
-  getD-ones (suc n) i z h = go (ltb i n) refl (getD-ones n i z)
-    where
-      go : (b : Bool) → ltb i n ≡ b → (i < n → getD (ones n) i z ≡ f i) → getD (ones n ++ (f n ∷ [])) i z ≡ f i
-      go true e ih =
-          let l = ltb-true i n e in
-          let long = length-ones n in
-          List·getD-append (ones n) (f n ∷ []) z i (omega arith) ∙ ih l
-      go false e ih =
-          let l = ltb-false i n e in
-          let same : n ≡ i = omega arith in
-          getD-at (ones n) (f n) [] z i (length-ones n ∙ same) ∙ ap f same
-
 -- ---- one word
 
 bit-lt : (b : Bool) → bit b < 2
