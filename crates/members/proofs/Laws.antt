@@ -92,12 +92,6 @@ words-append (c ∷ xs) ys =
 
 -- ---- loops over n nodes that do the same for each node
 
-pub each-alike : {A : Type 0} (f g : ℕ → List A) (n : ℕ) → ((i : ℕ) → i < n → f i ≡ g i) → each f n ≡ each g n
-unfolding each
-each-alike f g zero h = refl
-each-alike {A} f g (suc n) h =
-    ap (λ (l : List A). l ++ f n) (each-alike f g n (λ (i : ℕ) l. h i (omega arith))) ∙ ap (λ (l : List A). each g n ++ l) (h n (omega arith))
-
 pub turns-alike : {S : Type 0} (f g : ℕ → S → S) (n : ℕ) → ((i : ℕ) → i < n → (s : S) → f i s ≡ g i s) → (s : S) → turns f n s ≡ turns g n s
 unfolding turns
 turns-alike f g zero h s = refl

@@ -17,7 +17,7 @@ use Rattle.rules.specs.Build.{Between}
 use Rattle.rules.specs.Relay.{Job, Relay, jobOf, opened}
 use Rattle.rules.specs.Places.{padded, listsIn}
 use Rattle.rules.specs.RelayPlaces.{roomWords, roomFloats, lengthsOf, jobsWords, jobsFloats, relayState, relayStateFloats}
-use Rattle.rules.proofs.Loops.{length-ones, getD-ones}
+use Rattle.rules.proofs.Loops.{length-ones, getD-ones, each-alike}
 use Rattle.lists.proofs.Slices.{length-entries, nodesOf-entries, distancesOf-entries}
 use Rattle.buffers.proofs.Places.{put-length}
 use Rattle.encoded.proofs.Lists.{room-words, room-floats, wordRow, floatRow, length-lengths, length-at}
@@ -44,13 +44,6 @@ module _ {A : Type 0} where
       let n = length-append front ys in
       rw e (ap (take (a + v)) (sym (append-assoc front ys (drop v (drop a xs)))) ∙ take-at (front ++ ys) (drop v (drop a xs)) (a + v) (omega arith))
 
-  -- loops whose turns give the same below m give the same
-  each-below : (f g : ℕ → List A) (m : ℕ) → ((i : ℕ) → i < m → f i ≡ g i) → each f m ≡ each g m
-  unfolding each
-  each-below f g zero e = refl
-  each-below f g (suc m) e =
-      ap (λ (l : List A). l ++ f m) (each-below f g m (λ (i : ℕ) (h : i < m). e i (omega arith))) ∙ ap (λ (l : List A). each g m ++ l) (e m (omega arith))
-
 module _ (n k : ℕ) (us : List ℕ) (fs : List Float) (lu : length us ≡ n * k) (lf : length fs ≡ n * k) where
   abbrev list : ℕ → List Neighbor
   list w = entries k (part k w us) (part k w fs)
@@ -66,7 +59,7 @@ module _ (n k : ℕ) (us : List ℕ) (fs : List Float) (lu : length us ≡ n * k
   unfolding listsIn
   rooms-are =
       room-words (k + 64) (each (λ (w : ℕ). list w ∷ []) n) ∙ joined-ones (wordRow (k + 64)) list n
-      ∙ each-below (λ (w : ℕ). wordRow (k + 64) (list w)) (λ (w : ℕ). padded (k + 64) 0 (part k w us)) n (λ (w : ℕ) (h : w < n).
+      ∙ each-alike (λ (w : ℕ). wordRow (k + 64) (list w)) (λ (w : ℕ). padded (k + 64) 0 (part k w us)) n (λ (w : ℕ) (h : w < n).
       let a = part-long w us lu h in
       let b = part-long w fs lf h in
       ap (padded (k + 64) 0) (nodesOf-entries k (part k w us) (part k w fs) (omega arith) ∙ take-all k (part k w us) (omega arith)))
@@ -75,7 +68,7 @@ module _ (n k : ℕ) (us : List ℕ) (fs : List Float) (lu : length us ≡ n * k
   unfolding listsIn
   floats-are =
       room-floats (k + 64) (each (λ (w : ℕ). list w ∷ []) n) ∙ joined-ones (floatRow (k + 64)) list n
-      ∙ each-below (λ (w : ℕ). floatRow (k + 64) (list w)) (λ (w : ℕ). padded (k + 64) zero32 (part k w fs)) n (λ (w : ℕ) (h : w < n).
+      ∙ each-alike (λ (w : ℕ). floatRow (k + 64) (list w)) (λ (w : ℕ). padded (k + 64) zero32 (part k w fs)) n (λ (w : ℕ) (h : w < n).
       let a = part-long w us lu h in
       let b = part-long w fs lf h in
       ap (padded (k + 64) zero32) (distancesOf-entries k (part k w us) (part k w fs) (omega arith) ∙ take-all k (part k w fs) (omega arith)))

@@ -9,8 +9,9 @@ use lib.Seq.{getD-take, getD-drop}
 use Rattle.rules.specs.Loops.{through}
 use Rattle.rules.specs.Descent.{Renewed, unvisit, unvisitAll, membersBack}
 use Rattle.rules.specs.DescentPlaces.{memberWords, membersIn}
+use Rattle.rules.proofs.Loops.{each-alike}
 use Rattle.buffers.specs.Area.{area}
-use Rattle.members.proofs.Laws.{members-front, area-in, each-alike, turns-alike}
+use Rattle.members.proofs.Laws.{members-front, area-in, turns-alike}
 use Rattle.passes.specs.Passes.{Below, Members}
 use Rattle.backs.specs.Backs.{Lengths, backs}
 use Rattle.renews.specs.Renews.{RenewedIn}
