@@ -15,11 +15,11 @@ use Rattle.rules.specs.Lists.{neighbor, nodeOf, nodesOf, entries}
 use Rattle.rules.specs.Rows.{isEmpty, emptySlot, live}
 use Rattle.rules.specs.Build.{Between, offered, linkBack, link, linkedSlots}
 use Rattle.rules.specs.Calls.{BuildSizes}
-use Rattle.rules.proofs.Loops.{turns-turn}
+use Rattle.rules.proofs.Loops.{turns-turn, row-in}
 use Rattle.lists.proofs.Slices.{length-entries, entries-take, take-entries, getD-entries, nodesOf-entries}
 use Rattle.lists.proofs.Plain.{all-at}
 use Rattle.rows.specs.Live.{LiveIn}
-use Rattle.rows.proofs.Laws.{slots-most, row-in, entries-append, entries-from, part-entries}
+use Rattle.rows.proofs.Laws.{slots-most, entries-append, entries-from, part-entries}
 use Rattle.offers.specs.Sound.{Sound}
 use Rattle.offers.proofs.Laws.{sound-offered, sound-part, sound-put}
 use Rattle.links.specs.Links.{Room, Linked, linksOf, linksAll}

@@ -17,22 +17,23 @@ use Rattle.rules.specs.Lists.{neighbor}
 use Rattle.rules.specs.Offers.{offer}
 use Rattle.rules.specs.Descent.{pair, offerTo, update, visit, meet}
 use Rattle.rules.specs.Places.{listsIn}
+use Rattle.rules.proofs.Loops.{row-in}
 use Rattle.buffers.specs.Area.{area}
 use Rattle.buffers.proofs.Places.{length-area, put-length}
 use Rattle.lists.proofs.Plain.{drop-later}
 use Rattle.steps.specs.Steps.{OfferedTo}
 use Rattle.visits.specs.Marks as visits
 use Rattle.meets.specs.Meets.{OfferedIn, Updated, Does, marksAt}
-use Rattle.meets.proofs.Lists.{inside, list-in, lists-front, lists-put, put-behind}
+use Rattle.meets.proofs.Lists.{list-in, lists-front, lists-put, put-behind}
 
 -- ---- where node u's list lies
 
 pub record Where (n k u : ℕ) : Type 0 where
-  pub inside : u * k + k ≤ n * k
+  pub row-in : u * k + k ≤ n * k
   pub small : n * k ≤ 65536
 
 pub where-is : (n k u : ℕ) → u < n → n ≤ 1024 → k ≤ 64 → Where n k u
-where-is n k u h few narrow = let m : n * k ≤ 1024 * 64 = mul-le-mul few narrow in record { inside = inside n k u h; small = omega arith }
+where-is n k u h few narrow = let m : n * k ≤ 1024 * 64 = mul-le-mul few narrow in record { row-in = row-in n k u h; small = omega arith }
 
 -- ---- one offer
 
@@ -43,7 +44,7 @@ module _ (n k u : ℕ) (us : List ℕ) (fs : List Float) (below : u < n) (few : 
   offered-in {w} {e} {ys} {zs} same o' =
       let o : OfferedTo (area (u * k) k us) (area (u * k) k fs) k e ys zs = rw same at o' in
       let at = where-is n k u below few narrow in
-      let fits = at .inside in
+      let fits = at .row-in in
       let ys-long : length ys ≡ k = o .nodes-long ∙ length-area (u * k) k us (omega arith) in
       let zs-long : length zs ≡ k = o .dists-long ∙ length-area (u * k) k fs (omega arith) in
       rw same

@@ -15,7 +15,7 @@ use lib.Ieee.{Float}
 use Rattle.rules.specs.Loops.{each, part}
 use Rattle.rules.specs.Lists.{entries}
 use Rattle.rules.specs.Places.{listsIn}
-use Rattle.rules.proofs.Loops.{length-ones, getD-ones, ones}
+use Rattle.rules.proofs.Loops.{length-ones, getD-ones, ones, row-in}
 use Rattle.lists.proofs.Plain.{drop-later}
 use Rattle.buffers.proofs.Places.{put-area, put-low, put-high}
 use Rattle.visits.proofs.Flags.{getD-changed}
@@ -37,12 +37,6 @@ part-front {A} m w i xs ys h l e l' = sym (cut xs l) ∙ ap (λ (zs : List A). d
         ap (drop (i * w)) (take-take (i * w + w) m zs h) ∙ ap (drop (i * w)) (take-add (i * w) w zs)
         ∙ drop-at (take (i * w) zs) (take w (drop (i * w) zs)) (i * w) (length-take-le (i * w) zs (omega arith))
 
-pub inside : (n k i : ℕ) → i < n → i * k + k ≤ n * k
-inside n k i h =
-    let step = suc-mul i k in
-    let within : suc i * k ≤ n * k = mul-le-mul-right k h in
-    omega arith
-
 module _ (n k : ℕ) where
   pub length-lists : (us : List ℕ) (fs : List Float) → length (listsIn n k us fs) ≡ n
   unfolding listsIn
@@ -57,7 +51,7 @@ module _ (n k : ℕ) where
   unfolding listsIn
   lists-front m us us' fs h l long e =
       ones-same (λ (i : ℕ). entries k (part k i us') (part k i fs)) (λ (i : ℕ). entries k (part k i us) (part k i fs)) n
-      (λ i b. let w = inside n k i b in ap (λ (p : List ℕ). entries k p (part k i fs)) (part-front m k i us' us (omega arith) (omega arith) e l))
+      (λ i b. let w = row-in n k i b in ap (λ (p : List ℕ). entries k p (part k i fs)) (part-front m k i us' us (omega arith) (omega arith) e l))
 
   module _ (us ys : List ℕ) (fs zs : List Float) (u : ℕ) (below : u < n) (room : n * k ≤ length us) (space : n * k ≤ length fs) (ys-long : length ys ≡ k) (zs-long : length zs ≡ k) where
     -- a list is lent, and comes back as ys and zs
@@ -75,21 +69,21 @@ module _ (n k : ℕ) where
         fs' = putMid (u * k) k fs zs
 
         fits : u * k + k ≤ length us
-        fits = let w = inside n k u below in omega arith
+        fits = let w = row-in n k u below in omega arith
 
         fits' : u * k + k ≤ length fs
-        fits' = let w = inside n k u below in omega arith
+        fits' = let w = row-in n k u below in omega arith
 
         other : (i : ℕ) → (u ≡ i → ⊥) → i < n → entries k (part k i us') (part k i fs') ≡ entries k (part k i us) (part k i fs)
         other i e b = go (ltb i u) refl
           where
             go : (t : Bool) → ltb i u ≡ t → entries k (part k i us') (part k i fs') ≡ entries k (part k i us) (part k i fs)
             go true t =
-                let l = inside u k i (ltb-true i u t) in
+                let l = row-in u k i (ltb-true i u t) in
                 ap₂ (entries k) (put-low (u * k) k us ys fits ys-long (i * k) k l) (put-low (u * k) k fs zs fits' zs-long (i * k) k l)
             go false t =
                 let ge = ltb-false i u t in
-                let l = inside i k u (lt-of-le-ne ge e) in
+                let l = row-in i k u (lt-of-le-ne ge e) in
                 ap₂ (entries k) (put-high (u * k) k us ys fits ys-long (i * k) k l) (put-high (u * k) k fs zs fits' zs-long (i * k) k l)
 
         at : (i : ℕ) → i < n → getD (listsIn n k us' fs') i [] ≡ getD (set (listsIn n k us fs) u (entries k ys zs)) i []

@@ -14,10 +14,10 @@ use Rattle.rules.specs.Loops.{each}
 use Rattle.rules.specs.Lists.{entries}
 use Rattle.rules.specs.Calls.{BuildSizes}
 use Rattle.rules.specs.Build.{Between, pruned, prunedSlots}
-use Rattle.rules.proofs.Loops.{each-turn}
+use Rattle.rules.proofs.Loops.{each-turn, row-in}
 use Rattle.buffers.proofs.Places.{length-area, put-length, put-area}
 use Rattle.lists.proofs.Slices.{entries-take, entries-same}
-use Rattle.rows.proofs.Laws.{row-in, slots-most, entries-append}
+use Rattle.rows.proofs.Laws.{slots-most, entries-append}
 use Rattle.pruned.specs.Pruned.{Room, PrunedRow, PrunedAll}
 
 pub record Pruning (d : Between) (n : ℕ) (p : BuildSizes) (ns₀ : List ℕ) (ds₀ : List Float) (ns : List ℕ) (ds : List Float) (flags pool : List ℕ) (pools : List Float) (q : ℕ) : Type 0 where

@@ -15,15 +15,11 @@ use Rattle.rules.specs.Loops.{each, part}
 use Rattle.rules.specs.Lists.{neighbor, nodesOf, entries}
 use Rattle.rules.specs.Rows.{emptyDistance, isEmpty, live, finished}
 use Rattle.rules.specs.Build.{rowOf, graphFrom}
-use Rattle.rules.proofs.Loops.{length-each}
+use Rattle.rules.proofs.Loops.{length-each, row-in}
 use Rattle.lists.proofs.Slices.{length-entries, drop-entries, entries-take, take-entries, entries-suc, nodesOf-entries}
 use Rattle.rows.specs.Live.{LiveIn, filled}
 
 -- ---- where a row stands
-
--- row q's part ends within the n rows
-pub row-in : (n w q : ℕ) → q < n → q * w + w ≤ n * w
-row-in n w q l = let m : suc q * w ≤ n * w = mul-le-mul-right w l in let u = suc-mul q w in omega arith
 
 -- "n 2 to 4,096", "`index_size` 1 to 64"
 pub slots-most : (n w : ℕ) → n ≤ 4096 → w ≤ 64 → n * w ≤ 262144
