@@ -13,8 +13,9 @@ use Rattle.rules.specs.Places.{padded}
 use Rattle.rules.specs.Descent.{drawn, drawsFrom, beginContext}
 use Rattle.rules.specs.DescentPlaces.{memberWords, contextWords}
 use Rattle.rules.proofs.Loops.{length-ones}
+use Rattle.rules.proofs.Places.{length-memberWords}
 use Rattle.buffers.proofs.Places.{length-area, put-length}
-use Rattle.members.proofs.Laws.{length-memberWords, words-append}
+use Rattle.members.proofs.Laws.{words-append}
 
 -- ---- a list of draws
 

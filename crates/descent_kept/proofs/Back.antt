@@ -14,19 +14,16 @@ use Rattle.rules.specs.Calls.{descentWords}
 use Rattle.rules.specs.Descent.{Context, Descent}
 use Rattle.rules.specs.Places.{padded, listWords, listFloats, listsIn}
 use Rattle.rules.specs.DescentPlaces.{memberWords, contextWords, pairWords, descentState, membersIn, contextIn, bitAt, descentIn}
+use Rattle.rules.proofs.Places.{length-padded, length-memberWords}
 use Rattle.lists.specs.All.{All}
 use Rattle.visits.proofs.Flags.{length-pairs, pairs-bit}
 use Rattle.encoded.specs.Words.{joined, Rows}
-use Rattle.encoded.proofs.Rows.{drop-more, each-back, length-padded, length-joined, drop-joined, rows-map, getD-mapped}
+use Rattle.encoded.proofs.Rows.{drop-more, each-back, length-joined, drop-joined, rows-map, getD-mapped}
 use Rattle.encoded.proofs.Lists.{length-list-words, length-list-floats, lists-back}
 use Rattle.lists.proofs.Plain.{all-at}
 use Rattle.descent_kept.specs.Formed.{Each, Few, Fitting}
 
 -- ---- one list of a context
-
-length-members : (xs : List ℕ) → length xs ≤ 64 → length (memberWords xs) ≡ 65
-unfolding memberWords
-length-members xs h = ap suc (length-padded most 0 xs h)
 
 pub members-back : (xs ys : List ℕ) → length xs ≤ 64 → membersIn (memberWords xs ++ ys) ≡ xs
 unfolding memberWords membersIn padded
@@ -57,10 +54,10 @@ module _ (c : Context) (F : Each Few c) where
 
   pub length-row : length (contextRow c) ≡ 260
   length-row =
-      let la = length-members (c .new) (F .new) in
-      let lb = length-members (c .old) (F .old) in
-      let lr = length-members (c .reversed-new) (F .reversed-new) in
-      let ls = length-members (c .reversed-old) (F .reversed-old) in
+      let la = length-memberWords (c .new) (F .new) in
+      let lb = length-memberWords (c .old) (F .old) in
+      let lr = length-memberWords (c .reversed-new) (F .reversed-new) in
+      let ls = length-memberWords (c .reversed-old) (F .reversed-old) in
       let e = length-append r s in
       let f = length-append b (r ++ s) in
       length-append a (b ++ (r ++ s)) ∙ omega arith
@@ -79,13 +76,13 @@ module _ (c : Context) (F : Each Few c) where
       h0 = simp append-assoc
 
       h1 : drop 65 (contextRow c ++ ys) ≡ b ++ (r ++ (s ++ ys))
-      h1 = ap (drop 65) h0 ∙ drop-at a (b ++ (r ++ (s ++ ys))) 65 (length-members (c .new) (F .new))
+      h1 = ap (drop 65) h0 ∙ drop-at a (b ++ (r ++ (s ++ ys))) 65 (length-memberWords (c .new) (F .new))
 
       h2 : drop 130 (contextRow c ++ ys) ≡ r ++ (s ++ ys)
-      h2 = drop-more (contextRow c ++ ys) b (r ++ (s ++ ys)) 65 130 65 h1 (length-members (c .old) (F .old)) refl
+      h2 = drop-more (contextRow c ++ ys) b (r ++ (s ++ ys)) 65 130 65 h1 (length-memberWords (c .old) (F .old)) refl
 
       h3 : drop 195 (contextRow c ++ ys) ≡ s ++ ys
-      h3 = drop-more (contextRow c ++ ys) r (s ++ ys) 130 195 65 h2 (length-members (c .reversed-new) (F .reversed-new)) refl
+      h3 = drop-more (contextRow c ++ ys) r (s ++ ys) 130 195 65 h2 (length-memberWords (c .reversed-new) (F .reversed-new)) refl
 
 -- ---- all contexts
 

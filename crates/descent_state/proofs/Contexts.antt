@@ -11,7 +11,7 @@ use Rattle.rules.specs.Descent.{Context}
 use Rattle.rules.specs.Places.{sameWords}
 use Rattle.rules.specs.DescentPlaces.{memberWords, contextWords, membersIn, contextIn, membersFormed, contextsFormed}
 use Rattle.rules.proofs.Tests.{and-assoc}
-use Rattle.encoded.proofs.Rows.{length-padded}
+use Rattle.rules.proofs.Places.{length-padded}
 use Rattle.encoded.proofs.Same.{same-words-append}
 use Rattle.members.proofs.Laws.{words-append}
 use Rattle.zeros.specs.Zeros.{allBelow}

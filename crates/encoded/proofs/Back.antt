@@ -15,9 +15,10 @@ use Rattle.rules.specs.Calls.{relayWords, relayFloats}
 use Rattle.rules.specs.Relay.{Job, Relay, noJob}
 use Rattle.rules.specs.Places.{padded}
 use Rattle.rules.specs.RelayPlaces.{roomWords, roomFloats, lengthsOf, jobWords, jobsWords, jobsFloats, relayState, relayStateFloats, jobIn, relayIn}
+use Rattle.rules.proofs.Places.{length-padded}
 use Rattle.lists.proofs.Plain.{all-at}
 use Rattle.encoded.specs.Words.{joined, Readable, Fitting}
-use Rattle.encoded.proofs.Rows.{drop-more, getD-head, each-back, length-padded, getD-mapped}
+use Rattle.encoded.proofs.Rows.{drop-more, getD-head, each-back, getD-mapped}
 use Rattle.encoded.proofs.Lists.{wordRow, floatRow, entries-padded, length-room-words, length-room-floats, part-words, part-floats, length-lengths, length-at}
 use Rattle.encoded.proofs.Jobs.{job-back, length-jobsWords, length-jobsFloats, jobs-floats, drop-jobs}
 

@@ -12,10 +12,11 @@ use Rattle.rules.specs.Distance.{zero32}
 use Rattle.rules.specs.Lists.{entries, nodesOf, distancesOf, nodeOf}
 use Rattle.rules.specs.Places.{padded, listWords, listFloats, listsIn}
 use Rattle.rules.specs.RelayPlaces.{roomWords, roomFloats, lengthsOf}
+use Rattle.rules.proofs.Places.{length-padded}
 use Rattle.lists.proofs.Plain.{all-at}
 use Rattle.lists.proofs.Slices.{entries-of}
 use Rattle.encoded.specs.Words.{joined, Rows, Short}
-use Rattle.encoded.proofs.Rows.{each-back, length-padded, length-joined, part-joined, rows-map, getD-mapped}
+use Rattle.encoded.proofs.Rows.{each-back, length-joined, part-joined, rows-map, getD-mapped}
 
 -- ---- one list
 

@@ -76,10 +76,6 @@ module _ {A : Type 0} where
 
   -- ---- padded rows
 
-  pub length-padded : (n : ℕ) (z : A) (xs : List A) → length xs ≤ n → length (padded n z xs) ≡ n
-  unfolding padded
-  length-padded n z xs h = simp (length-append, length-replicate) (omega arith)
-
   pub padded-full : (n : ℕ) (z : A) (xs : List A) → length xs ≡ n → padded n z xs ≡ xs
   unfolding padded
   padded-full n z xs h = let e : n - length xs ≡ 0 = omega arith in rw e (append-nil xs)

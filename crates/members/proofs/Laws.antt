@@ -11,13 +11,6 @@ use Rattle.rules.specs.Places.{padded}
 use Rattle.rules.specs.Descent.{Context}
 use Rattle.rules.specs.DescentPlaces.{memberWords, contextWords, membersIn}
 
-pub length-memberWords : (xs : List ℕ) → length xs ≤ 64 → length (memberWords xs) ≡ 65
-unfolding memberWords padded
-length-memberWords xs h =
-    let e = length-append xs (replicate (64 - length xs) 0) in
-    let r = length-replicate {A = ℕ} (64 - length xs) 0 in
-    omega arith
-
 drop-replicate : (n m : ℕ) (z : ℕ) → drop n (replicate m z) ≡ replicate (m - n) z
 drop-replicate zero m z = ap (λ (i : ℕ). replicate i z) (let e : m ≡ m - 0 = omega arith in e)
 drop-replicate (suc n) zero z = ap (λ (i : ℕ). replicate i z) (let e : 0 ≡ 0 - suc n = omega arith in e)

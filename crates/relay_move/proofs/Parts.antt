@@ -17,12 +17,12 @@ use Rattle.rules.specs.Relay.{Stage, nextList}
 use Rattle.rules.specs.Places.{padded}
 use Rattle.relay_state.specs.State.{Sized}
 use Rattle.rules.specs.RelayPlaces.{relayIn}
+use Rattle.rules.proofs.Places.{length-padded}
 use Rattle.relay_state.proofs.Parts.{Sizes, sizes, Inside, inside}
 use Rattle.relay_state.proofs.Reading.{jobs-long}
 use Rattle.halves.specs.declared.Flags.{Flags}
 use Rattle.halves.specs.Halves.{NextFlags, Roomed, NextList}
 use Rattle.buffers.proofs.Places.{put-length, put-high}
-use Rattle.encoded.proofs.Rows.{length-padded}
 use Rattle.encoded.proofs.Lists.{length-nodes}
 use Rattle.jobs.specs.Jobs.{keptWords}
 use Rattle.relay_move.specs.Moves.{listIn, Room, wordsWith, floatsWith, ListStepped, jobPlace, halfStage, HalfReady, offered, HalfMoved}

@@ -18,7 +18,7 @@ use Rattle.rules.specs.Relay.{Job, jobOf, stepsOf, takenOf, longerOf}
 use Rattle.rules.specs.Places.{padded}
 use Rattle.rules.specs.RelayPlaces.{jobWords, jobsWords, jobsFloats}
 use Rattle.rules.proofs.Loops.{length-ones}
-use Rattle.encoded.proofs.Rows.{length-padded}
+use Rattle.rules.proofs.Places.{length-padded}
 use Rattle.encoded.proofs.Jobs.{length-jobsWords, length-jobsFloats}
 use Rattle.relay_open.specs.Open.{JobsIn, firstJobs, JobsWritten}
 

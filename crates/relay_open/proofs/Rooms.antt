@@ -10,7 +10,7 @@ use lib.Seq.{take-at, drop-at, take-take, length-take-le, take-all}
 use Rattle.rules.specs.Loops.{each, part, over}
 use Rattle.rules.specs.Places.{padded}
 use Rattle.rules.proofs.Loops.{length-each, part-each}
-use Rattle.encoded.proofs.Rows.{length-padded}
+use Rattle.rules.proofs.Places.{length-padded}
 use Rattle.relay_close.proofs.Blocks.{Blocks, blocks-none, blocks-turn, blocks-end}
 
 module _ {A : Type 0} (z : A) where

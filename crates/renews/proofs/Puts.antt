@@ -10,8 +10,8 @@ use lib.Seq.{length-take-le, take-at, drop-append-le, take-append-le, take-all}
 use Rattle.rules.specs.declared.Neighbor.{Neighbor}
 use Rattle.rules.specs.Descent.{listAt, newOf, oldOf, drawnAfter, keptNew}
 use Rattle.rules.specs.DescentPlaces.{memberWords}
+use Rattle.rules.proofs.Places.{length-memberWords}
 use Rattle.shuffles.specs.Kept.{KeptNew}
-use Rattle.members.proofs.Laws.{length-memberWords}
 use Rattle.renews.specs.Renews.{Gathered, Source, NewPut, OldPut, chosen}
 use Rattle.renews.proofs.Laws.{chosen-new, chosen-old}
 
