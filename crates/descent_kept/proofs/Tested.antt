@@ -19,6 +19,7 @@ use Rattle.rules.specs.Places.{sameWords, sameFloats, listFloats, listsIn}
 use Rattle.rules.specs.DescentPlaces.{descentState, membersIn, contextIn, bitAt, descentIn, membersFormed, contextsFormed, descentFormed}
 use Rattle.rules.proofs.Tests.{both, together}
 use Rattle.rules.proofs.Loops.{length-ones}
+use Rattle.rules.proofs.Places.{length-members}
 use Rattle.lists.specs.All.{All}
 use Rattle.lists.proofs.Plain.{all-append}
 use Rattle.lists.proofs.Slices.{length-entries}
@@ -93,21 +94,14 @@ formed-encoded {n} {k} x F =
 
 -- ---- and what is well formed is the encoding of a well-formed descent
 
-few-members : (us : List ℕ) → length (membersIn us) ≤ 64
-unfolding membersIn
-few-members us =
-    let a = length-take (getD us 0 0) (take most (drop 1 us)) in
-    let b = length-take most (drop 1 us) in
-    omega arith
-
 few-context : (us : List ℕ) → Each Few (contextIn us)
 unfolding contextIn
 few-context us =
     record {
-      new = few-members us;
-      old = few-members (drop 65 us);
-      reversed-new = few-members (drop 130 us);
-      reversed-old = few-members (drop 195 us);
+      new = length-members us;
+      old = length-members (drop 65 us);
+      reversed-new = length-members (drop 130 us);
+      reversed-old = length-members (drop 195 us);
     }
 
 module _ (n k : ℕ) (us : List ℕ) (fs : List Float) (B : Binary32 fs) (long-us : length us ≡ descentWords n k) (long-fs : length fs ≡ n * k) where

@@ -11,7 +11,7 @@ use Rattle.rules.specs.Descent.{Context}
 use Rattle.rules.specs.Places.{sameWords}
 use Rattle.rules.specs.DescentPlaces.{memberWords, contextWords, membersIn, contextIn, membersFormed, contextsFormed}
 use Rattle.rules.proofs.Tests.{and-assoc}
-use Rattle.rules.proofs.Places.{length-padded}
+use Rattle.rules.proofs.Places.{length-padded, length-members, members-front}
 use Rattle.encoded.proofs.Same.{same-words-append}
 use Rattle.members.proofs.Laws.{words-append}
 use Rattle.zeros.specs.Zeros.{allBelow}
@@ -33,16 +33,6 @@ and-across false b c d = refl
 
 -- ---- one list
 
--- the first 65 words tell it
-members-of : (xs : List ℕ) → membersIn (take 65 xs) ≡ membersIn xs
-unfolding membersIn
-members-of [] = refl
-members-of (x ∷ xs) = ap (take x) (take-take 64 64 xs (omega arith))
-
-length-members : (xs : List ℕ) → length (membersIn xs) ≤ 64
-unfolding membersIn
-length-members xs = simp length-take (omega arith)
-
 length-memberWords : (xs : List ℕ) → length (memberWords (membersIn xs)) ≡ 65
 unfolding memberWords
 length-memberWords xs = ap suc (length-padded 64 0 (membersIn xs) (length-members xs))
@@ -53,7 +43,7 @@ module _ (n : ℕ) where
 
   test-of : (xs : List ℕ) → memberTest n (take 65 xs) ≡ (same xs && membersFormed n (membersIn xs))
   unfolding memberTest
-  test-of xs = ap (λ (ms : List ℕ). sameWords (take 65 xs) (memberWords ms) && membersFormed n ms) (members-of xs)
+  test-of xs = ap (λ (ms : List ℕ). sameWords (take 65 xs) (memberWords ms) && membersFormed n ms) (members-front xs)
 
   -- a list in front of other words
   in-front : (xs zs : List ℕ) (w : ℕ) → 65 + w ≤ length xs → sameWords (take (65 + w) xs) (memberWords (membersIn xs) ++ zs) ≡ (same xs && sameWords (take w (drop 65 xs)) zs)

@@ -16,10 +16,11 @@ use Rattle.rules.specs.Places.{sameWords}
 use Rattle.rules.specs.DescentPlaces.{memberWords, membersIn, contextIn, membersFormed, descentIn, descentFormed}
 use Rattle.rules.proofs.Tests.{both}
 use Rattle.rules.proofs.Loops.{each-alike}
+use Rattle.rules.proofs.Places.{members-front}
 use Rattle.lists.specs.All.{All}
 use Rattle.zeros.specs.Zeros.{allBelow}
 use Rattle.zeros.proofs.Laws.{all-at}
-use Rattle.members.proofs.Laws.{members-front, area-in}
+use Rattle.members.proofs.Laws.{area-in}
 use Rattle.passes.specs.Passes.{Below, Members, Contexted, contextsIn, ManyContexted}
 use Rattle.descent_state.specs.State.{Sized, memberTest}
 use Rattle.descent_state.proofs.Members.{too-long}

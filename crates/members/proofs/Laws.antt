@@ -52,12 +52,6 @@ put-zeroed src dst zs ys l z f =
     ap (λ (l : List ℕ). putMid 1 (length (set zs 0 n) - 1) (set l 0 n) ys) z
     ∙ put src dst ys (length (set zs 0 n) - 1) l w (f ∙ ap (λ (l : List ℕ). over n src (take (length (set zs 0 n) - 1) (drop 1 (set l 0 n)))) z)
 
--- a list is told by its 65 words
-pub members-front : (xs : List ℕ) → membersIn (take 65 xs) ≡ membersIn xs
-unfolding membersIn
-members-front [] = refl
-members-front (x ∷ xs) = ap (take x) (take-take 64 64 xs (omega arith))
-
 -- a part of a part
 pub area-in : {A : Type 0} (a m c : ℕ) (xs : List A) → a + m ≤ c → take m (drop a (take c xs)) ≡ take m (drop a xs)
 area-in zero m c xs l = take-take m c xs (omega arith)

@@ -10,8 +10,9 @@ use Rattle.rules.specs.Loops.{through}
 use Rattle.rules.specs.Descent.{Renewed, unvisit, unvisitAll, membersBack}
 use Rattle.rules.specs.DescentPlaces.{memberWords, membersIn}
 use Rattle.rules.proofs.Loops.{each-alike}
+use Rattle.rules.proofs.Places.{members-front}
 use Rattle.buffers.specs.Area.{area}
-use Rattle.members.proofs.Laws.{members-front, area-in, turns-alike}
+use Rattle.members.proofs.Laws.{area-in, turns-alike}
 use Rattle.passes.specs.Passes.{Below, Members}
 use Rattle.backs.specs.Backs.{Lengths, backs}
 use Rattle.renews.specs.Renews.{RenewedIn}
