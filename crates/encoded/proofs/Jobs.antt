@@ -10,6 +10,7 @@ use lib.Ieee.{Float}
 use Rattle.rules.specs.Relay.{Stage, fresh, looked, pushed, measured, popped, stepsOf, isPopped, takenOf, longerOf, Job, bit, noJob}
 use Rattle.rules.specs.Places.{padded}
 use Rattle.rules.specs.RelayPlaces.{jobWords, jobsWords, jobsFloats, stageIn, jobIn}
+use Rattle.rules.proofs.Places.{bit-is}
 use Rattle.encoded.specs.Words.{joined, Rows, Readable}
 use Rattle.encoded.proofs.Rows.{length-joined, drop-joined, getD-mapped}
 
@@ -18,10 +19,6 @@ use Rattle.encoded.proofs.Rows.{length-joined, drop-joined, getD-mapped
 pub length-jobWords : (j : Job) → length (jobWords j) ≡ 15
 unfolding jobWords padded
 length-jobWords j = refl
-
-bit-is : (b : Bool) → eqb (bit b) 1 ≡ b
-bit-is true = refl
-bit-is false = refl
 
 pub job-back : (j : Job) (xs : List ℕ) → Readable j → jobIn (jobWords j ++ xs) (j .distance) ≡ j
 unfolding jobIn jobWords padded stageIn stepsOf takenOf longerOf isPopped

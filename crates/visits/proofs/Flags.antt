@@ -14,6 +14,7 @@ use Rattle.rules.specs.Loops.{each}
 use Rattle.rules.specs.Relay.{bit}
 use Rattle.rules.specs.DescentPlaces.{wordOf, pairWords, bitAt}
 use Rattle.rules.proofs.Loops.{length-ones, getD-ones, ones}
+use Rattle.rules.proofs.Places.{bit-is}
 use Rattle.bits.specs.Bits.{setBit, clearBit, Words}
 use Rattle.bits.proofs.Laws.{bitOf, bit-half, bitAt-set, bitAt-clear, length-setBit, length-clearBit, words-setBit, words-clearBit, words-told}
 
@@ -26,17 +27,13 @@ bit-lt : (b : Bool) → bit b < 2
 bit-lt true = omega arith
 bit-lt false = omega arith
 
-bit-one : (b : Bool) → eqb (bit b) 1 ≡ b
-bit-one true = refl
-bit-one false = refl
-
 pub word-bit : (bs : List Bool) (k : ℕ) → bitOf (wordOf bs) k ≡ getD bs k false
 unfolding wordOf
 word-bit [] k = ap (λ (x : ℕ). eqb (x % 2) 1) (zero-div (2 ^ k))
 word-bit (b ∷ bs) zero =
     let l = bit-lt b in
     let e : (bit b + 2 * wordOf bs) % 2 ≡ bit b = omega arith in
-    ap (λ (x : ℕ). eqb (x % 2) 1) (div-one (bit b + 2 * wordOf bs)) ∙ ap (λ (x : ℕ). eqb x 1) e ∙ bit-one b
+    ap (λ (x : ℕ). eqb (x % 2) 1) (div-one (bit b + 2 * wordOf bs)) ∙ ap (λ (x : ℕ). eqb x 1) e ∙ bit-is b
 word-bit (b ∷ bs) (suc k) =
     let l = bit-lt b in
     let e : (bit b + 2 * wordOf bs) / 2 ≡ wordOf bs = omega arith in
