@@ -13,14 +13,9 @@ use borrow.Author.Tests.{leb-true}
 use Rattle.rules.specs.declared.Distance.{Distance}
 use Rattle.rules.specs.declared.Distance.the-variants.{Fit, Unfit}
 use Rattle.rules.specs.Distance.{lane, totalOf, fit, answer, largest, zero32, distanceOf, unfit, carried, lanesOf, nodesApart, queryApart, between}
+use Rattle.rules.proofs.Distances.{total-fits}
 
 -- ---- any total
-
-pub total-fits : (total : Float) (a b : List Float) → T (fits binary32 total) → T (fits binary32 (totalOf total a b))
-unfolding totalOf lane
-total-fits total [] y h = h
-total-fits total (a ∷ x) [] h = h
-total-fits total (a ∷ x) (b ∷ y) h = total-fits (lane total a b) x y (add-fits binary32 total _)
 
 -- ---- a fit value
 

@@ -20,6 +20,7 @@ use lib.Ieee.Positive.{num, den, den-pos}
 use Rattle.rules.specs.declared.Distance.the-variants.{Fit, Unfit}
 use Rattle.rules.specs.Distance.{lane, totalOf, zero32, fit, answer, distanceOf, carried, lanesOf, nodesApart, between}
 use Rattle.rules.specs.Rows.{emptyDistance}
+use Rattle.rules.proofs.Distances.{total-fits}
 use Rattle.neighbor.specs.Holdable.{Holdable}
 
 -- ---- the bits of a value that is not negative, from n, the value counted in units of the smallest: they rise with n
@@ -212,12 +213,6 @@ bits-eq x y hx hy = eq-is x y (holdable-plus x hx) (holdable-plus y hy) ∙ go (
         rw (eq-eqb a b (omega arith), eq-eqb u v (omega arith))
 
 -- ---- the distances of 01
-
-total-fits : (total : Float) (a b : List Float) → T (fits binary32 total) → T (fits binary32 (totalOf total a b))
-unfolding totalOf lane
-total-fits total [] y h = h
-total-fits total (a ∷ x) [] h = h
-total-fits total (a ∷ x) (b ∷ y) h = total-fits (lane total a b) x y (add-fits binary32 total _)
 
 -- a distance that an answer carries can be held, and so can what stands for one that is unfit
 pub holdable-carried : (a b : List Float) → Holdable (carried (distanceOf a b))
