@@ -13,8 +13,6 @@ use Rattle.rules.specs.Places.{sameWords, sameFloats}
 use Rattle.rules.proofs.Tests.{both, and-assoc}
 use Rattle.encoded.specs.Words.{Binary32}
 
--- ---- two tests at once
-
 -- ---- words
 
 pub same-words : (xs ys : List ℕ) → xs ≡ ys → sameWords xs ys ≡ true

@@ -17,8 +17,6 @@ use Rattle.rules.proofs.Tests.{both, together, same-truth}
 use Rattle.zeros.specs.Zeros.{zeros}
 use Rattle.jobs.specs.Jobs.{halfFormed, distanceFormed, jobTest, PendingHalf, PendingJob}
 
--- ---- two tests that hold of the same are one
-
 -- ---- the steps done of both halves add up to those of the job, where those are at most 8
 
 steps-test : (s : ℕ) (a b c d : Bool) → eqb s (stepsOf (stageIn s a b) + stepsOf (stageIn (s - 4) c d)) ≡ leb s 8

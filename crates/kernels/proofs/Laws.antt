@@ -17,9 +17,6 @@ use Rattle.rules.proofs.Loops.{length-ones, getD-ones}
 use Rattle.metrics.proofs.Steps.{turn, ended}
 use Rattle.kernels.specs.Eight.{column, held, PutRow, Holds, Laned, Totals, AllFit}
 
--- ---- one of each, side by side
-
-module _ {A : Type 0} (f : ℕ → A) where
 -- ---- a column
 
 pub length-column : (t d : ℕ) (block : List Float) → length (column t d block) ≡ d

@@ -29,11 +29,11 @@ use Rattle.meets.proofs.Lists.{list-in, lists-front, lists-put, put-beh
 -- ---- where node u's list lies
 
 pub record Where (n k u : ℕ) : Type 0 where
-  pub row-in : u * k + k ≤ n * k
+  pub inside : u * k + k ≤ n * k
   pub small : n * k ≤ 65536
 
 pub where-is : (n k u : ℕ) → u < n → n ≤ 1024 → k ≤ 64 → Where n k u
-where-is n k u h few narrow = let m : n * k ≤ 1024 * 64 = mul-le-mul few narrow in record { row-in = row-in n k u h; small = omega arith }
+where-is n k u h few narrow = let m : n * k ≤ 1024 * 64 = mul-le-mul few narrow in record { inside = row-in n k u h; small = omega arith }
 
 -- ---- one offer
 
@@ -44,7 +44,7 @@ module _ (n k u : ℕ) (us : List ℕ) (fs : List Float) (below : u < n) (few : 
   offered-in {w} {e} {ys} {zs} same o' =
       let o : OfferedTo (area (u * k) k us) (area (u * k) k fs) k e ys zs = rw same at o' in
       let at = where-is n k u below few narrow in
-      let fits = at .row-in in
+      let fits = at .inside in
       let ys-long : length ys ≡ k = o .nodes-long ∙ length-area (u * k) k us (omega arith) in
       let zs-long : length zs ≡ k = o .dists-long ∙ length-area (u * k) k fs (omega arith) in
       rw same

@@ -15,8 +15,6 @@ use Rattle.rules.specs.declared.Distance.the-variants.{Fit, Unfit}
 use Rattle.rules.specs.Distance.{lane, totalOf, fit, answer, largest, zero32, distanceOf, unfit, carried, lanesOf, nodesApart, queryApart, between}
 use Rattle.rules.proofs.Distances.{total-fits}
 
--- ---- any total
-
 -- ---- a fit value
 
 pub zero-fit : fit zero32 ≡ true

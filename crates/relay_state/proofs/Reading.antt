@@ -27,7 +27,6 @@ use Rattle.relay_state.proofs.Zeroed.{all-drop, binary-entries, binary-
 
 -- ---- one for each place
 
-module _ {A : Type 0} (f : ℕ → A) where
 -- rows that are made of the ones, one behind the other
 joined-append : {A : Type 0} (a b : List (List A)) → joined (a ++ b) ≡ joined a ++ joined b
 unfolding joined

@@ -19,8 +19,6 @@ use Rattle.lists.specs.All.{All}
 use Rattle.lists.specs.Ascending.{AllHoldable, NoneBefore, Ascending}
 use Rattle.lists.proofs.Laws.{later, holdable-insert, holdable-take, ascending-insert, ascending-take}
 
--- ---- two tests that both hold
-
 -- ---- "ascending", of neighbours in the list and of any two
 
 none-later : (x y : Neighbor) (zs : List Neighbor) → Holdable (x .distance) → Holdable (y .distance) → AllHoldable zs → before y x ≡ false → NoneBefore y zs → NoneBefore x zs

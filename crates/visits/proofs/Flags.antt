@@ -18,9 +18,6 @@ use Rattle.rules.proofs.Places.{bit-is}
 use Rattle.bits.specs.Bits.{setBit, clearBit, Words}
 use Rattle.bits.proofs.Laws.{bitOf, bit-half, bitAt-set, bitAt-clear, length-setBit, length-clearBit, words-setBit, words-clearBit, words-told}
 
--- ---- one entry for each number
-
-module _ {A : Type 0} (f : ℕ → A) where
 -- ---- one word
 
 bit-lt : (b : Bool) → bit b < 2
