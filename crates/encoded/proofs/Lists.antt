@@ -13,20 +13,12 @@ use Rattle.rules.specs.Lists.{entries, nodesOf, distancesOf, nodeOf}
 use Rattle.rules.specs.Places.{padded, listWords, listFloats, listsIn}
 use Rattle.rules.specs.RelayPlaces.{roomWords, roomFloats, lengthsOf}
 use Rattle.rules.proofs.Places.{length-padded}
-use Rattle.lists.proofs.Plain.{all-at}
+use Rattle.lists.proofs.Plain.{all-at, length-nodes, length-distances}
 use Rattle.lists.proofs.Slices.{entries-of}
 use Rattle.encoded.specs.Words.{joined, Rows, Short}
 use Rattle.encoded.proofs.Rows.{each-back, length-joined, part-joined, rows-map, getD-mapped}
 
 -- ---- one list
-
-pub length-nodes : (l : List Neighbor) → length (nodesOf l) ≡ length l
-unfolding nodesOf
-length-nodes l = length-map l nodeOf
-
-pub length-distances : (l : List Neighbor) → length (distancesOf l) ≡ length l
-unfolding distancesOf
-length-distances l = length-map l (λ (e : Neighbor). e .distance)
 
 -- whatever stands behind it
 pub entries-back : (l : List Neighbor) (xs : List ℕ) (ys : List Float) → entries (length l) (nodesOf l ++ xs) (distancesOf l ++ ys) ≡ l

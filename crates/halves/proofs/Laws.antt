@@ -20,7 +20,7 @@ use Rattle.rules.specs.RelayPlaces.{stageIn}
 use Rattle.lists.specs.Lists.{Pushed, Popped}
 use Rattle.lists.proofs.Laws.{length-insert}
 use Rattle.lists.proofs.Slices.{length-entries, nodesOf-entries, distancesOf-entries}
-use Rattle.encoded.proofs.Lists.{length-nodes, length-distances}
+use Rattle.lists.proofs.Plain.{length-nodes, length-distances}
 use Rattle.halves.specs.declared.Flags.{Flags}
 use Rattle.halves.specs.Halves.{NextFlags, Roomed, NextList}
 

@@ -89,3 +89,13 @@ all-holdable (e ∷ es) E = (E .0, all-holdable es (E .1))
 pub map-same : {A B : Type 0} (f g : A → B) (xs : List A) → All (λ (x : A). f x ≡ g x) xs → map f xs ≡ map g xs
 map-same f g [] X = refl
 map-same {A} {B} f g (x ∷ xs) X = ap (λ (y : B). y ∷ map f xs) (X .0) ∙ ap (λ (l : List B). g x ∷ l) (map-same f g xs (X .1))
+
+-- ---- the nodes and the distances of a list
+
+pub length-nodes : (l : List Neighbor) → length (nodesOf l) ≡ length l
+unfolding nodesOf
+length-nodes l = length-map l nodeOf
+
+pub length-distances : (l : List Neighbor) → length (distancesOf l) ≡ length l
+unfolding distancesOf
+length-distances l = length-map l (λ (e : Neighbor). e .distance)

@@ -19,10 +19,10 @@ use Rattle.rules.specs.Places.{padded, listWords, listFloats}
 use Rattle.rules.specs.RelayPlaces.{pending, pendingAt, relayIn}
 use Rattle.rules.proofs.Tests.{both}
 use Rattle.lists.specs.All.{All}
-use Rattle.lists.proofs.Plain.{all-of}
+use Rattle.lists.proofs.Plain.{all-of, length-nodes, length-distances}
 use Rattle.buffers.proofs.Laws.{Written, written-more}
 use Rattle.encoded.specs.Words.{Rows}
-use Rattle.encoded.proofs.Lists.{length-nodes, length-distances, length-list-words, length-list-floats, part-nodes, part-distances}
+use Rattle.encoded.proofs.Lists.{length-list-words, length-list-floats, part-nodes, part-distances}
 use Rattle.relay_state.specs.State.{Sized}
 use Rattle.relay_state.proofs.Parts.{sizes, inside}
 use Rattle.relay_state.proofs.Reading.{lists-long, list-at}

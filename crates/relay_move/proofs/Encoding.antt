@@ -18,9 +18,10 @@ use Rattle.rules.specs.RelayPlaces.{roomWords, roomFloats, lengthsOf, jobWords,
 use Rattle.rules.proofs.Places.{length-padded}
 use Rattle.lists.specs.All.{All}
 use Rattle.buffers.proofs.Places.{put-length}
+use Rattle.lists.proofs.Plain.{length-nodes, length-distances}
 use Rattle.encoded.specs.Words.{joined, Rows, Short}
 use Rattle.encoded.proofs.Rows.{joined-set}
-use Rattle.encoded.proofs.Lists.{length-nodes, length-distances, wordRow, floatRow, room-words, room-floats, word-rows, float-rows, length-room-words, length-room-floats, length-lengths}
+use Rattle.encoded.proofs.Lists.{wordRow, floatRow, room-words, room-floats, word-rows, float-rows, length-room-words, length-room-floats, length-lengths}
 use Rattle.encoded.proofs.Jobs.{jobs-words, job-rows, length-jobWords, length-jobsWords, jobs-floats}
 use Rattle.relay_move.specs.Moves.{wordsWith, floatsWith, jobPlace}
 

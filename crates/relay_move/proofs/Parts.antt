@@ -23,7 +23,7 @@ use Rattle.relay_state.proofs.Reading.{jobs-long}
 use Rattle.halves.specs.declared.Flags.{Flags}
 use Rattle.halves.specs.Halves.{NextFlags, Roomed, NextList}
 use Rattle.buffers.proofs.Places.{put-length, put-high}
-use Rattle.encoded.proofs.Lists.{length-nodes}
+use Rattle.lists.proofs.Plain.{length-nodes}
 use Rattle.jobs.specs.Jobs.{keptWords}
 use Rattle.relay_move.specs.Moves.{listIn, Room, wordsWith, floatsWith, ListStepped, jobPlace, halfStage, HalfReady, offered, HalfMoved}
 

@@ -22,12 +22,12 @@ use Rattle.rules.specs.RelayPlaces.{roomWords, roomFloats, lengthsOf, jobWords,
 use Rattle.rules.proofs.Tables.{within}
 use Rattle.rules.proofs.Tests.{both, same-truth}
 use Rattle.rules.proofs.Loops.{ones}
-use Rattle.lists.proofs.Plain.{all-take}
+use Rattle.lists.proofs.Plain.{all-take, length-nodes, length-distances}
 use Rattle.lists.proofs.Slices.{length-entries, nodesOf-entries, distancesOf-entries}
 use Rattle.encoded.specs.Words.{Binary32, joined}
 use Rattle.encoded.proofs.Same.{words-same}
 use Rattle.encoded.proofs.Rows.{getD-mapped}
-use Rattle.encoded.proofs.Lists.{length-nodes, length-distances, room-words, room-floats, wordRow, floatRow, length-lengths, length-at}
+use Rattle.encoded.proofs.Lists.{room-words, room-floats, wordRow, floatRow, length-lengths, length-at}
 use Rattle.encoded.proofs.Jobs.{jobs-words, jobs-floats, length-jobsWords, length-jobsFloats}
 use Rattle.zeros.specs.Zeros.{zeros, allBelow}
 use Rattle.zeros.proofs.Laws as all

@@ -22,11 +22,10 @@ use Rattle.rules.specs.RelayPlaces.{jobWords, jobsWords, jobsFloats, jobIn, job
 use Rattle.rules.proofs.Tables.{within}
 use Rattle.rules.proofs.Tests.{both, together}
 use Rattle.lists.specs.All.{All}
-use Rattle.lists.proofs.Plain.{all-at, all-take}
+use Rattle.lists.proofs.Plain.{all-at, all-take, length-nodes, length-distances}
 use Rattle.lists.proofs.Slices.{length-entries, nodesOf-entries, distancesOf-entries}
 use Rattle.encoded.specs.Words.{Binary32, joined, Fitting}
 use Rattle.encoded.proofs.Same.{same-words, words-same, same-floats, floats-same}
-use Rattle.encoded.proofs.Lists.{length-nodes, length-distances}
 use Rattle.encoded.proofs.Jobs.{length-jobWords, length-jobsWords, length-jobsFloats}
 use Rattle.encoded.proofs.Back.{words-at, floats-at, length-in, count-at, jobs-in, job-words-at, distances-in}
 use Rattle.zeros.specs.Zeros.{zeros, allBelow}

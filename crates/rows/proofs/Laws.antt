@@ -17,6 +17,7 @@ use Rattle.rules.specs.Rows.{emptyDistance, isEmpty, live, finished}
 use Rattle.rules.specs.Build.{rowOf, graphFrom}
 use Rattle.rules.proofs.Loops.{length-each, row-in}
 use Rattle.lists.proofs.Slices.{length-entries, drop-entries, entries-take, take-entries, entries-suc, nodesOf-entries}
+use Rattle.lists.proofs.Plain.{length-nodes}
 use Rattle.rows.specs.Live.{LiveIn, filled}
 
 -- ---- where a row stands
@@ -192,11 +193,6 @@ length-live (e ∷ es) = go (isEmpty e) (length-live es)
     go false h = suc-le-suc h
 
 -- ---- "Each graph row is the live nodes, then n in every slot left."
-
-length-nodes : (es : List Neighbor) → length (nodesOf es) ≡ length es
-unfolding nodesOf
-length-nodes [] = refl
-length-nodes (e ∷ es) = ap suc (length-nodes es)
 
 length-finished : (n w : ℕ) (es : List Neighbor) → length es ≤ w → length (finished n w es) ≡ w
 unfolding finished

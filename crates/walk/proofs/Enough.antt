@@ -12,6 +12,7 @@ use Rattle.rules.specs.declared.Neighbor.{Neighbor}
 use Rattle.rules.specs.Lists.{nodeOf, nodesOf}
 use Rattle.rules.specs.Rows.{graphRow}
 use Rattle.rules.specs.Search.{Walk, on, Found, Taken, andThen, visits, rootsFound, started, joins, tooFar, takeThese, rowEnded, expand, walk, searchOf}
+use Rattle.lists.proofs.Plain.{length-nodes}
 use Rattle.expand.specs.Queue.{ones, AllBelow}
 use Rattle.expand.proofs.Sound.{ones-most, below-live, Whenever, whenever-then, Grown, grown-visits, queued-these, joined-long}
 use Rattle.walk.specs.Walks.{Roots}
@@ -25,16 +26,12 @@ record Sound (n : ℕ) (s : Walk) : Type 0 where
   below : AllBelow n (s .queue)
   taken : s .takings ≤ length (s .queue)
 
-nodes-long : (es : List Neighbor) → length (nodesOf es) ≡ length es
-unfolding nodesOf
-nodes-long es = length-map es nodeOf
-
 at-first : (n k : ℕ) (roots : List ℕ) (sorted : List Neighbor) → Roots n roots → AllBelow n (nodesOf sorted) × (length sorted ≡ length roots) → Sound n (started n k roots sorted)
 unfolding started
 at-first n k roots sorted fine b =
     let zeros : length (replicate {A = ℕ} n 0) ≡ n = length-replicate n 0 in
     let count = marks-count n roots fine in
-    let nodes = nodes-long (take k sorted) in
+    let nodes = length-nodes (take k sorted) in
     let cut = length-take k sorted in
     let all = b .1 in
     record {
