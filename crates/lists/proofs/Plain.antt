@@ -99,3 +99,8 @@ length-nodes l = length-map l nodeOf
 pub length-distances : (l : List Neighbor) → length (distancesOf l) ≡ length l
 unfolding distancesOf
 length-distances l = length-map l (λ (e : Neighbor). e .distance)
+
+-- ---- what is lent from a place on
+
+pub to-end : {A : Type 0} (i : ℕ) (xs : List A) → take (length xs - i) (drop i xs) ≡ drop i xs
+to-end i xs = take-all (length xs - i) (drop i xs) (simp length-drop (omega arith))

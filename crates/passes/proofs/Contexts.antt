@@ -7,12 +7,8 @@ use lib.ListN.{length, take, drop, getD, length-take, length-drop}
 use lib.Seq.{take-take, drop-drop, take-all, getD-drop}
 use Rattle.rules.specs.DescentPlaces.{membersIn}
 use Rattle.rules.proofs.Places.{length-members}
-use Rattle.lists.proofs.Plain.{all-at}
+use Rattle.lists.proofs.Plain.{all-at, to-end}
 use Rattle.passes.specs.Passes.{Below, Short, Members, MembersOf, Contexted}
-
--- a part up to the end
-pub to-end : {A : Type 0} (i : ℕ) (xs : List A) → take (length xs - i) (drop i xs) ≡ drop i xs
-to-end i xs = take-all (length xs - i) (drop i xs) (let e = length-drop i xs in omega arith)
 
 pub members-short : {n : ℕ} {us : List ℕ} → Members n us → Short n (membersIn us)
 members-short {n} {us} h = record { below = h .below; few = length-members us }

@@ -18,16 +18,13 @@ use Rattle.rules.specs.Lists.{entries}
 use Rattle.rules.specs.Offers.{listFormed}
 use Rattle.rules.specs.Relay.{Job}
 use Rattle.rules.specs.RelayPlaces.{jobIn, relayIn, pendingAt}
+use Rattle.lists.proofs.Plain.{to-end}
 use Rattle.zeros.specs.Zeros.{zeros, allBelow}
 use Rattle.zeros.proofs.Laws.{all-turn, all-not}
 use Rattle.jobs.specs.Jobs.{jobTest, pendingBy, PendingJob}
 use Rattle.relay_state.specs.State.{Sized, jobsTest, jobsOf, PendingAll, roomTest, roomAt}
 
 module _ {A : Type 0} where
-  -- what is lent from a place on
-  pub lent-from : (a : ℕ) (xs : List A) → take (length xs - a) (drop a xs) ≡ drop a xs
-  lent-from a xs = take-all (length xs - a) (drop a xs) (simp length-drop (omega arith))
-
   -- a place that is there is read, whatever would stand for an absent one
   pub getD-any : (xs : List A) (i : ℕ) (a b : A) → i < length xs → getD xs i a ≡ getD xs i b
   getD-any [] i a b h = absurd (not-suc-le-zero h)
@@ -48,7 +45,7 @@ module _ (n : ℕ) (js : List ℕ) (xs : List Float) where
 
   -- the words that are lent, and the distance that is read
   lent-job : (i : ℕ) → i < length xs → jobTest n (take (length js - (1 + 15 * i)) (drop (1 + 15 * i) js)) (getD xs i nan) ≡ jobOk i
-  lent-job i h = ap (λ (ws : List ℕ). jobTest n ws (getD xs i nan)) (lent-from (1 + 15 * i) js) ∙ ap (jobTest n (drop (1 + 15 * i) js)) (getD-any xs i nan zero32 h)
+  lent-job i h = ap (λ (ws : List ℕ). jobTest n ws (getD xs i nan)) (to-end (1 + 15 * i) js) ∙ ap (jobTest n (drop (1 + 15 * i) js)) (getD-any xs i nan zero32 h)
 
   module _ (count i : ℕ) (few : count ≤ 64) (long : length xs ≡ 64) where
     pub job-not : i < count → jobTest n (take (length js - (1 + 15 * i)) (drop (1 + 15 * i) js)) (getD xs i nan) ≡ false → false ≡ allBelow jobOk count
@@ -95,7 +92,7 @@ pending-start js w = record { is = λ (x : ℕ → Float). refl; few = omega ari
 pub pending-turn : {js : List ℕ} {i w r s : ℕ} → PendingAll js i w r → PendingJob (take (length js - (1 + 15 * i)) (drop (1 + 15 * i) js)) w s → PendingAll js (i + 1) w (r + s)
 unfolding pendingAt each
 pending-turn {js} {i} {w} {r} {s} inv made =
-    let m : PendingJob (drop (1 + 15 * i) js) w s = rw (lent-from (1 + 15 * i) js) at made in
+    let m : PendingJob (drop (1 + 15 * i) js) w s = rw (to-end (1 + 15 * i) js) at made in
     let f = inv .few in
     let g = made .few in
     record {
@@ -188,7 +185,7 @@ module _ {n k : ℕ} {us : List ℕ} {fs : List Float} (z : Sized n k us fs) (co
     lent-room : roomTest n (k + p) (getD us (n * (k + 64) + w) 0) (take m (drop (w * (k + 64)) us)) (take m (drop (w * (k + 64)) fs)) ≡ roomAt n k us fs w
     unfolding roomAt part
     lent-room =
-        let a : PendingAll (drop (n * (k + 64) + n) us) count w p = rw (lent-from (n * (k + 64) + n) us) at asked in
+        let a : PendingAll (drop (n * (k + 64) + n) us) count w p = rw (to-end (n * (k + 64) + n) us) at asked in
         let same : p ≡ pendingAt w (relayIn n k us fs .jobs) = a .is (λ (i : ℕ). getD fs (n * (k + 64) + i) zero32) ∙ ap (pendingAt w) (sym read-jobs) in
         rw (cut, same)
 

@@ -22,7 +22,7 @@ use Rattle.rules.specs.RelayPlaces.{roomWords, roomFloats, lengthsOf, jobWords,
 use Rattle.rules.proofs.Tables.{within}
 use Rattle.rules.proofs.Tests.{both, same-truth}
 use Rattle.rules.proofs.Loops.{ones}
-use Rattle.lists.proofs.Plain.{all-take, length-nodes, length-distances}
+use Rattle.lists.proofs.Plain.{all-take, length-nodes, length-distances, to-end}
 use Rattle.lists.proofs.Slices.{length-entries, nodesOf-entries, distancesOf-entries}
 use Rattle.encoded.specs.Words.{Binary32, joined}
 use Rattle.encoded.proofs.Same.{words-same}
@@ -34,7 +34,7 @@ use Rattle.zeros.proofs.Laws as all
 use Rattle.jobs.specs.Jobs.{jobTest}
 use Rattle.relay_state.specs.State.{Sized, jobsTest, roomTest, roomAt}
 use Rattle.relay_state.proofs.Zeroed.{zeros-are, floats-are, all-drop}
-use Rattle.relay_state.proofs.Parts.{lent-from, sizes, from-jobs, inside}
+use Rattle.relay_state.proofs.Parts.{sizes, from-jobs, inside}
 use Rattle.relay_state.proofs.Reading.{joined-ones, parts-front, listOf, jobOf, jobsLong, lists-long, jobs-long, list-at, job-at}
 use Rattle.relay_state.proofs.Whole.{Facts, facts, formed, tests-hold}
 
@@ -287,7 +287,7 @@ module _ {n k : ℕ} {us : List ℕ} {fs : List Float} (z : Sized n k us fs) (B 
   lentTest = jobsTest n (take (length us - (n * (k + 64) + n)) (drop (n * (k + 64) + n) us)) (take (length fs - n * (k + 64)) (drop (n * (k + 64)) fs))
 
   lent : lentTest ≡ jobsTest n (drop (n * (k + 64) + n) us) (drop (n * (k + 64)) fs)
-  lent = rw (lent-from (n * (k + 64) + n) us, lent-from (n * (k + 64)) fs)
+  lent = rw (to-end (n * (k + 64) + n) us, to-end (n * (k + 64)) fs)
 
   pub by-jobs : lentTest ≡ false → false ≡ relayFormed n k us fs
   by-jobs h = sym (sym tested ∙ rw (sym lent ∙ h))

@@ -9,9 +9,10 @@ use Rattle.rules.specs.Distance.{between}
 use Rattle.rules.specs.Descent.{meet, meetAll, passes}
 use Rattle.rules.specs.DescentPlaces.{contextIn}
 use Rattle.passes.specs.Passes.{contextsIn}
-use Rattle.passes.proofs.Contexts.{to-end, contexted-end}
+use Rattle.passes.proofs.Contexts.{contexted-end}
 use Rattle.passes.proofs.Laws.{Doing, doing-none, doing-more, doing-end, turns-each, game-kept, does-pairs}
 use borrow.Author.Needs.{needs}
+use Rattle.lists.proofs.Plain.{to-end}
 use Rattle.passes.proofs.meet_all.Statement.{statement}
 use Rattle.passes.proofs.meet_all.Tie as tie
 

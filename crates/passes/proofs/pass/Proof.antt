@@ -8,9 +8,10 @@ use Rattle.rules.specs.Loops.{through}
 use Rattle.rules.specs.Distance.{between}
 use Rattle.rules.specs.Descent.{meet}
 use Rattle.passes.specs.Passes.{rowPairs, firstOf, passPairs}
-use Rattle.passes.proofs.Contexts.{to-end, short-at, short-end}
+use Rattle.passes.proofs.Contexts.{short-at, short-end}
 use Rattle.passes.proofs.Laws.{Doing, doing-none, doing-more, doing-pairs, game-kept, does-part}
 use borrow.Author.Needs.{needs}
+use Rattle.lists.proofs.Plain.{to-end}
 use Rattle.passes.proofs.pass.Statement.{statement}
 use Rattle.passes.proofs.pass.Tie as tie
 
