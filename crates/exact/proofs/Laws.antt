@@ -17,7 +17,7 @@ use Rattle.rules.specs.Lists.{neighbor, nodeOf, nodesOf, entries, insert, place
 use Rattle.rules.specs.Distance.{before, between}
 use Rattle.rules.specs.Rows.{emptyDistance}
 use Rattle.neighbor.specs.Holdable.{Holdable}
-use Rattle.neighbor.proofs.Bits.{holdable-empty, holdable-between, bits-lt}
+use Rattle.neighbor.proofs.Bits.{holdable-empty, holdable-between, bits-lt, within-empty}
 use Rattle.neighbor.proofs.Order.{asymmetric}
 use Rattle.rules.specs.Build.{Between, entry, others, exactList}
 use Rattle.rules.proofs.Loops.{length-ones, getD-ones}
@@ -173,11 +173,6 @@ offered-behind {d} {q} {i} {k} {ns} {ds} {len} l h g e b =
     let within = place-le (entry d q i) (entries len ns ds) in
     offered-other l e (pushed-none l h g (record { at = refl; within = omega arith }) (leb-true k (place (entry d q i) (entries len ns ds)) b))
 
--- nothing is beyond the mark of an empty slot
-not-beyond : (x : Float) → Holdable x → lt emptyDistance x ≡ false
-unfolding ofBits toBits
-not-beyond x h = let low = h .low in bits-lt emptyDistance x holdable-empty h ∙ le-ltb (toBits binary32 emptyDistance) (toBits binary32 x) (omega arith)
-
 -- so does what is farther than the farthest
 module _ {ns : List ℕ} {ds : List Float} {len k : ℕ} where
   pub offered-farther : (x : Float) {q i : ℕ} → 1 ≤ k → len ≤ k → k ≤ length ns → k ≤ length ds → Holdable x → AllHoldable (entries len ns ds) → Ascending (entries len ns ds)
@@ -192,7 +187,7 @@ module _ {ns : List ℕ} {ds : List Float} {len k : ℕ} where
       last = neighbor (getD ns (len - 1) 0) (getD ds (len - 1) nan)
 
       behind : (t : Bool) → ltb len k ≡ t → lt (cond t emptyDistance (getD ds (len - 1) nan)) x ≡ true → leb k (place e (entries len ns ds)) ≡ true
-      behind true f c = absurd (subst T (sym c ∙ not-beyond x X) tt)
+      behind true f c = absurd (subst T (sym c ∙ within-empty x X) tt)
       behind false f c =
           let full = ltb-false len k f in
           let long = length-entries len ns ds (omega arith) (omega arith) in

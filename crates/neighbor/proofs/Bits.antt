@@ -234,3 +234,8 @@ holdable-distance a b x e = subst Holdable (ap carried e) (holdable-carried a b)
 pub holdable-between : (lanes : List Float) (dimension i j : ℕ) → Holdable (between lanes dimension i j)
 unfolding between nodesApart
 holdable-between lanes dimension i j = holdable-carried (lanesOf lanes dimension i) (lanesOf lanes dimension j)
+
+-- nothing that can be held is farther than an empty slot
+pub within-empty : (x : Float) → Holdable x → lt emptyDistance x ≡ false
+unfolding ofBits toBits
+within-empty x h = let low = h .low in bits-lt emptyDistance x holdable-empty h ∙ le-ltb (toBits binary32 emptyDistance) (toBits binary32 x) (omega arith)

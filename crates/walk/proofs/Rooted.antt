@@ -19,7 +19,7 @@ use Rattle.rules.specs.Lists.{neighbor, entries, insert}
 use Rattle.rules.specs.Rows.{emptyDistance}
 use Rattle.rules.specs.Search.{Going, on, unfitAt, andThen, worksOut, rootsFound}
 use Rattle.neighbor.specs.Holdable.{Holdable}
-use Rattle.neighbor.proofs.Bits.{bits-lt, holdable-empty}
+use Rattle.neighbor.proofs.Bits.{bits-lt, holdable-empty, within-empty}
 use Rattle.neighbor.proofs.Order.{asymmetric}
 use Rattle.lists.specs.Ascending.{AllHoldable, Ascending}
 use Rattle.lists.proofs.Laws.{length-insert, take-insert, take-behind, holdable-at, holdable-insert, ascending-insert}
@@ -44,10 +44,6 @@ isOn (on a) = true
 isOn (unfitAt v) = false
 
 -- ---- the bound
-
-within-empty : (x : Float) → Holdable x → lt emptyDistance x ≡ false
-unfolding ofBits toBits
-within-empty x h = let low = h .low in bits-lt emptyDistance x holdable-empty h ∙ le-ltb (toBits binary32 emptyDistance) (toBits binary32 x) (omega arith)
 
 module _ (n k len : ℕ) (us : List ℕ) (fs : List Float) (room : Room n us fs) (some : 1 ≤ k) (short : len ≤ 64) where
   -- the k-th found, as the code reads it
