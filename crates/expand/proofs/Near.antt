@@ -18,7 +18,7 @@ use Rattle.neighbor.proofs.Bits.{bits-lt, bits-eq, holdable-distance}
 use Rattle.neighbor.proofs.Order.{irreflexive}
 use Rattle.lists.specs.All.{All}
 use Rattle.lists.specs.Ascending.{AllHoldable, NoneBefore, Ascending}
-use Rattle.lists.proofs.Laws.{length-insert, insert-is-perm, holdable-at, holdable-insert, holdable-take, ascending-insert, ascending-take}
+use Rattle.lists.proofs.Laws.{length-insert, insert-is-perm, holdable-at, holdable-insert, holdable-take, ascending-insert, ascending-take, none-at}
 use Rattle.lists.proofs.Plain.{all-at, all-take, all-perm}
 use Rattle.expand.specs.Steps.{worksNear, visitNear, visitsNear}
 
@@ -184,14 +184,9 @@ unfolding before
 not-beyond y [] H B = tt
 not-beyond y (x ∷ xs) H B = ((H .0, or-left (lt (y .distance) (x .distance)) _ (B .0)), not-beyond y xs (H .1) (B .1))
 
-none-of : (x : Neighbor) (xs : List Neighbor) (i : ℕ) (z : Neighbor) → NoneBefore x xs → i < length xs → before (getD xs i z) x ≡ false
-none-of x [] i z N h = absurd (omega arith)
-none-of x (y ∷ xs) zero z N h = N .0
-none-of x (y ∷ xs) (suc i) z N h = none-of x xs i z (N .1) (omega arith)
-
 behind-last : (x : Neighbor) (xs : List Neighbor) (z : Neighbor) → AllHoldable (x ∷ xs) → Ascending (x ∷ xs) → All (λ (w : Neighbor). before (getD (x ∷ xs) (length xs) z) w ≡ false) (x ∷ xs)
 behind-last x [] z H S = (irreflexive x (H .0), tt)
-behind-last x (y ∷ ys) z H S = (none-of x (y ∷ ys) (length ys) z (S .0) (omega arith), behind-last y ys z (H .1) (S .1))
+behind-last x (y ∷ ys) z H S = (none-at x (y ∷ ys) (length ys) z (S .0) (omega arith), behind-last y ys z (H .1) (S .1))
 
 pub best-near : (xs : List Neighbor) → 1 ≤ length xs → AllHoldable xs → Ascending xs → All (Near (farthest xs)) xs
 unfolding farthest

@@ -339,7 +339,7 @@ insertAll-ascending es xs X s = ap (insertAll es) (sym (sort-ascending xs X s)) 
 
 -- ---- an entry that does not precede the last of the first k of an ascending list is not among the least k
 
-none-at : (x : Neighbor) (ys : List Neighbor) (i : ℕ) (z : Neighbor) → NoneBefore x ys → i < length ys → before (getD ys i z) x ≡ false
+pub none-at : (x : Neighbor) (ys : List Neighbor) (i : ℕ) (z : Neighbor) → NoneBefore x ys → i < length ys → before (getD ys i z) x ≡ false
 none-at x [] i z n h = absurd (not-suc-le-zero h)
 none-at x (y ∷ ys) zero z n h = n .0
 none-at x (y ∷ ys) (suc i) z n h = none-at x ys i z (n .1) (le-of-suc-le-suc h)
