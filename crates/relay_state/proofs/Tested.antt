@@ -26,14 +26,14 @@ use Rattle.lists.proofs.Plain.{all-take, length-nodes, length-distances, to-end
 use Rattle.lists.proofs.Slices.{length-entries, nodesOf-entries, distancesOf-entries}
 use Rattle.encoded.specs.Words.{Binary32, joined}
 use Rattle.encoded.proofs.Same.{words-same}
-use Rattle.encoded.proofs.Rows.{getD-mapped}
+use Rattle.encoded.proofs.Rows.{getD-mapped, all-drop}
 use Rattle.encoded.proofs.Lists.{room-words, room-floats, wordRow, floatRow, length-lengths, length-at}
 use Rattle.encoded.proofs.Jobs.{jobs-words, jobs-floats, length-jobsWords, length-jobsFloats}
 use Rattle.zeros.specs.Zeros.{zeros, allBelow}
 use Rattle.zeros.proofs.Laws as all
 use Rattle.jobs.specs.Jobs.{jobTest}
 use Rattle.relay_state.specs.State.{Sized, jobsTest, roomTest, roomAt}
-use Rattle.relay_state.proofs.Zeroed.{zeros-are, floats-are, all-drop}
+use Rattle.relay_state.proofs.Zeroed.{zeros-are, floats-are}
 use Rattle.relay_state.proofs.Parts.{sizes, from-jobs, inside}
 use Rattle.relay_state.proofs.Reading.{joined-ones, parts-front, listOf, jobOf, jobsLong, lists-long, jobs-long, list-at, job-at}
 use Rattle.relay_state.proofs.Whole.{Facts, facts, formed, tests-hold}

@@ -28,11 +28,12 @@ use Rattle.encoded.specs.Words.{Binary32, joined, Fitting}
 use Rattle.encoded.proofs.Same.{same-words, words-same, same-floats, floats-same}
 use Rattle.encoded.proofs.Jobs.{length-jobWords, length-jobsWords, length-jobsFloats}
 use Rattle.encoded.proofs.Back.{words-at, floats-at, length-in, count-at, jobs-in, job-words-at, distances-in}
+use Rattle.encoded.proofs.Rows.{all-drop}
 use Rattle.zeros.specs.Zeros.{zeros, allBelow}
 use Rattle.zeros.proofs.Laws as all
 use Rattle.jobs.specs.Jobs.{jobTest}
 use Rattle.relay_state.specs.State.{Sized, jobsTest, roomTest, roomAt}
-use Rattle.relay_state.proofs.Zeroed.{zeros-are, are-zeros, floats-are, are-floats, all-drop}
+use Rattle.relay_state.proofs.Zeroed.{zeros-are, are-zeros, floats-are, are-floats}
 use Rattle.relay_state.proofs.Parts.{Sizes, sizes, from-jobs, Inside, inside}
 use Rattle.relay_state.proofs.Reading.{listOf, jobOf, jobsLong, lists-long, jobs-long, list-at, job-at, short, fitting, binary}
 

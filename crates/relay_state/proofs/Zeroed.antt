@@ -53,11 +53,6 @@ are-floats (suc m) = are-floats m
 
 -- ---- values of binary32
 
-pub all-drop : {A : Type 0} (P : A → Type 0) (m : ℕ) (xs : List A) → All P xs → All P (drop m xs)
-all-drop P zero xs X = X
-all-drop P (suc m) [] X = tt
-all-drop P (suc m) (x ∷ xs) X = all-drop P m xs (X .1)
-
 binary-zeros : (m : ℕ) → Binary32 (replicate m zero32)
 binary-zeros zero = tt
 binary-zeros (suc m) = (ofBits-fits binary32 0, binary-zeros m)
