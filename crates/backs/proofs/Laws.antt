@@ -16,6 +16,7 @@ use Rattle.rules.proofs.Loops.{each-turn}
 use Rattle.buffers.specs.Area.{area}
 use Rattle.buffers.proofs.Places.{length-area, put-length, put-area, put-low, put-high}
 use Rattle.shuffles.specs.Kept.{KeptBack}
+use Rattle.shuffles.proofs.Laws.{drawn-same}
 use Rattle.backs.specs.Backs.{FilledFrom, backs, GatheredBack, PutBack, Reversed}
 
 -- ---- one number, some times
@@ -142,10 +143,6 @@ module _ {n at : ℕ} {src us₀ us : List ℕ} {i : ℕ} (inv : Putting n at sr
   putting-end h = record { list = λ (p : ℕ) l. inv .list p (omega arith); other = inv .other; behind = inv .behind; rest = inv .rest; long = inv .long }
 
 -- ---- the reversed list, cut and copied
-
-drawn-same : (s at : ℕ) (xs ys : List ℕ) → length xs ≡ length ys → drawnAfter s at xs ≡ drawnAfter s at ys
-unfolding drawnAfter
-drawn-same s at xs ys e = rw e
 
 pub reversed : {n s from to : ℕ} {draws : List ℕ} {at len kept r a b : ℕ} {us ws us' ws₁ ys : List ℕ} → a ≡ len → b ≡ kept → GatheredBack n from us ws ws₁ len → len ≤ length ws₁
     → KeptBack draws s at (midOf 0 a ws₁) ys kept → r ≡ drawnAfter s at (midOf 0 a (putMid 0 a ws₁ ys)) → PutBack n to (midOf 0 b (putMid 0 a ws₁ ys)) us us'

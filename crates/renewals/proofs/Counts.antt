@@ -12,7 +12,7 @@ use Rattle.rules.specs.declared.Neighbor.{Neighbor}
 use Rattle.rules.specs.Loops.{turns, each}
 use Rattle.rules.specs.Lists.{nodeOf}
 use Rattle.rules.specs.Descent.{Renewed, renew, renewAll, isVisited, listAt, newOf, oldOf, shuffle, drawnAfter, keptNew, membersBack}
-use Rattle.shuffles.proofs.Laws.{length-shuffle}
+use Rattle.shuffles.proofs.Laws.{length-shuffle, drawn-few}
 use Rattle.renews.specs.Renews.{renewedTo}
 use Rattle.renews.proofs.All.{grown-low, grown-last, Longs, renewed-long}
 use Rattle.descent_kept.proofs.Lists.{Lists}
@@ -29,14 +29,6 @@ split-few n i flags (e ∷ es) = go (eqb (nodeOf e) n) (isVisited n i (nodeOf e)
     go true b h = omega arith
     go false true h = omega arith
     go false false h = omega arith
-
-pub drawn-few : (s at : ℕ) (xs : List ℕ) → drawnAfter s at xs ≤ at + length xs
-unfolding drawnAfter
-drawn-few s at xs = go (ltb s (length xs))
-  where
-    go : (b : Bool) → cond b (at + (length xs - 1)) at ≤ at + length xs
-    go true = omega arith
-    go false = omega arith
 
 kept-few : (draws : List ℕ) (s at : ℕ) (xs : List ℕ) → length (keptNew draws s at xs) ≤ length xs
 unfolding keptNew

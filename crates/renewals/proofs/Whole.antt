@@ -15,6 +15,7 @@ use Rattle.rules.specs.DescentPlaces.{memberWords, contextWords, pairWords}
 use Rattle.rules.proofs.Loops.{length-ones, getD-ones}
 use Rattle.buffers.specs.Area.{area}
 use Rattle.buffers.proofs.Places.{length-area, put-length, put-area, put-front, put-high}
+use Rattle.shuffles.proofs.Laws.{drawn-few}
 use Rattle.visits.specs.Marks as visits
 use Rattle.meets.specs.Meets.{marksAt}
 use Rattle.members.proofs.Laws.{area-in}
@@ -24,7 +25,7 @@ use Rattle.renews.specs.Renews.{Lists, RenewedIn, Renews}
 use Rattle.unvisits.specs.Unvisits.{unvisitEach, News}
 use Rattle.descent_kept.proofs.Contexts.{Renewing, all-renewed}
 use Rattle.renewals.specs.Renewals.{Ready, Held, renewedOf, ListsRenewed, StateRenewed}
-use Rattle.renewals.proofs.Counts.{drawn-few, olds-few, news-few}
+use Rattle.renewals.proofs.Counts.{olds-few, news-few}
 use Rattle.renewals.proofs.Places.{back-new, back-old, lengths-new, lengths-old, news-walkable, unvisited, renewed-as}
 
 -- a part of a slice comes back: what lies behind it

@@ -12,21 +12,9 @@ use Rattle.rules.specs.Descent.{listAt, newOf, oldOf, drawnAfter, keptNew}
 use Rattle.rules.specs.DescentPlaces.{memberWords}
 use Rattle.rules.proofs.Places.{length-memberWords}
 use Rattle.shuffles.specs.Kept.{KeptNew}
+use Rattle.shuffles.proofs.Laws.{drawn-same, drawn-few}
 use Rattle.renews.specs.Renews.{Gathered, Source, NewPut, OldPut, chosen}
 use Rattle.renews.proofs.Laws.{chosen-new, chosen-old}
-
--- where the next draw is hangs on the length alone
-after-length : (s at : ℕ) (xs ys : List ℕ) → length xs ≡ length ys → drawnAfter s at xs ≡ drawnAfter s at ys
-unfolding drawnAfter
-after-length s at xs ys e = ap (λ (m : ℕ). cond (ltb s m) (at + (m - 1)) at) e
-
-after-most : (s at : ℕ) (xs : List ℕ) → drawnAfter s at xs ≤ at + length xs
-unfolding drawnAfter
-after-most s at xs = go (ltb s (length xs))
-  where
-    go : (b : Bool) → cond b (at + (length xs - 1)) at ≤ at + length xs
-    go true = omega arith
-    go false = omega arith
 
 -- the part of the slice that the code cuts out
 first-part : (len : ℕ) (found : List ℕ) → take (len - 0) (drop 0 found) ≡ take len found
@@ -92,9 +80,9 @@ module _ {n k i : ℕ} {us found : List ℕ} {len : ℕ} (narrow : k ≤ 64) (be
         let m = g .most in
         let long = gathered-long g in
         let is : dst ≡ memberWords (drop from ys) = e ∙ ap memberWords kept-part in
-        let drew : next ≡ drawnAfter s at (take len found) = after ∙ ap (drawnAfter s at) shuffled-part ∙ after-length s at ys (take len found) (ys-long ∙ sym long) in
+        let drew : next ≡ drawnAfter s at (take len found) = after ∙ ap (drawnAfter s at) shuffled-part ∙ drawn-same s at ys (take len found) (ys-long ∙ sym long) in
         let d = length-drop from ys in
-        let high = after-most s at (take len found) in
+        let high = drawn-few s at (take len found) in
         record {
           list = λ flags lists h. is ∙ ap memberWords (kept .list ∙ ap (keptNew draws s at) (first-part len found ∙ gathered-new g flags lists h));
           totalled = λ flags lists h. ap (λ (c : ℕ). total + c) (sym long ∙ ap length (gathered-new g flags lists h));

@@ -88,3 +88,18 @@ module _ (s at : ℕ) (xs : List ℕ) where
   pub after-all : length xs ≤ s → at ≡ drawnAfter s at xs
   unfolding drawnAfter
   after-all h = rw (le-ltb s (length xs) h)
+
+-- ---- the draws that are spent
+
+-- go by the length of a list alone
+pub drawn-same : (s at : ℕ) (xs ys : List ℕ) → length xs ≡ length ys → drawnAfter s at xs ≡ drawnAfter s at ys
+unfolding drawnAfter
+drawn-same s at xs ys e = rw e
+
+pub drawn-few : (s at : ℕ) (xs : List ℕ) → drawnAfter s at xs ≤ at + length xs
+unfolding drawnAfter
+drawn-few s at xs = go (ltb s (length xs))
+  where
+    go : (b : Bool) → cond b (at + (length xs - 1)) at ≤ at + length xs
+    go true = omega arith
+    go false = omega arith
