@@ -35,7 +35,7 @@ use Rattle.descent_kept.proofs.Back.{descent-back}
 -- ---- "with nodes below n"
 
 module _ (n : ℕ) where
-  members-below : (xs : List ℕ) → membersFormed n xs ≡ true → Below n xs
+  pub members-below : (xs : List ℕ) → membersFormed n xs ≡ true → Below n xs
   unfolding membersFormed
   members-below [] h = tt
   members-below (x ∷ xs) h =

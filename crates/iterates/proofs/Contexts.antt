@@ -25,6 +25,7 @@ use Rattle.passes.specs.Passes.{Below, Members, Contexted, contextsIn, ManyCont
 use Rattle.descent_state.specs.State.{Sized, memberTest}
 use Rattle.descent_state.proofs.Members.{too-long}
 use Rattle.descent_state.proofs.Contexts.{listTest}
+use Rattle.descent_kept.proofs.Tested.{members-below}
 
 -- ---- a context is told by its 260 words
 
@@ -42,11 +43,6 @@ same-context xs ys e =
 
 -- ---- a list that the test passes
 
-below-of : (n : ℕ) (xs : List ℕ) → membersFormed n xs ≡ true → Below n xs
-unfolding membersFormed
-below-of n [] h = tt
-below-of n (x ∷ xs) h = let b = both (ltb x n) (membersFormed n xs) h in (ltb-true x n (b .0), below-of n xs (b .1))
-
 first-word : (xs : List ℕ) → getD (take 65 xs) 0 0 ≡ getD xs 0 0
 first-word [] = refl
 first-word (x ∷ xs) = refl
@@ -54,7 +50,7 @@ first-word (x ∷ xs) = refl
 pub walkable : (n : ℕ) (xs : List ℕ) → 65 ≤ length xs → memberTest n (take 65 xs) ≡ true → Members n xs
 unfolding memberTest
 walkable n xs long h =
-    record { room = long; few = go (ltb 64 (getD xs 0 0)) refl; below = subst (Below n) (members-front xs) (below-of n (membersIn (take 65 xs)) (both (sameWords (take 65 xs) (memberWords (membersIn (take 65 xs)))) (membersFormed n (membersIn (take 65 xs))) h .1)) }
+    record { room = long; few = go (ltb 64 (getD xs 0 0)) refl; below = subst (Below n) (members-front xs) (members-below n (membersIn (take 65 xs)) (both (sameWords (take 65 xs) (memberWords (membersIn (take 65 xs)))) (membersFormed n (membersIn (take 65 xs))) h .1)) }
   where
     go : (b : Bool) → ltb 64 (getD xs 0 0) ≡ b → getD xs 0 0 ≤ 64
     go false f = ltb-false 64 (getD xs 0 0) f
