@@ -57,18 +57,6 @@ chosen-more w n i flags (x ∷ xs) v = go (taken w n i flags x) (chosen-more w n
 
 -- ---- the first j entries of a list are passed
 
--- where node i's list lies
-pub record Where (n k i : ℕ) : Type 0 where
-  pub inside : i * k + k ≤ n * k
-  pub small : n * k ≤ 65536
-
-pub where-is : (n k i : ℕ) → i < n → n ≤ 1024 → k ≤ 64 → Where n k i
-where-is n k i h few narrow =
-    let m : n * k ≤ 1024 * 64 = mul-le-mul few narrow in
-    let step = suc-mul i k in
-    let within : suc i * k ≤ n * k = mul-le-mul-right k h in
-    record { inside = omega arith; small = omega arith }
-
 pub record Gathering (n k i : ℕ) (w : Bool) (us out : List ℕ) (len j : ℕ) : Type 0 where
   pub list : (flags : List Bool) → Holds (marksAt n k) n flags us → All (λ (v : ℕ). v ≤ n) (part k i us) → take len out ≡ chosen w n i flags (take j (part k i us))
   pub long : length out ≡ 64

@@ -2,8 +2,9 @@
 use mathlib.Core.Path.{refl}
 use Prim.Native.Nat.{_-_}
 use native.Mathlib.Omega.{arith}
-use Rattle.renews.proofs.Laws.{where-is, Gathering, gathering-none, gathering-more, gathering-end}
+use Rattle.renews.proofs.Laws.{Gathering, gathering-none, gathering-more, gathering-end}
 use borrow.Author.Needs.{needs}
+use Rattle.meets.proofs.Laws.{where-is}
 use Rattle.renews.proofs.gather.Statement.{statement}
 use Rattle.renews.proofs.gather.Tie as tie
 

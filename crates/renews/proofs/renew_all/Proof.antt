@@ -5,8 +5,8 @@ use native.Mathlib.Omega.{arith}
 use lib.ListN.{length}
 use Rattle.renews.specs.Renews.{Renews}
 use Rattle.renews.proofs.All.{renews-none, renews-more, renews-to, cut-long}
-use Rattle.renews.proofs.Laws.{where-is}
 use borrow.Author.Needs.{needs}
+use Rattle.meets.proofs.Laws.{where-is}
 use Rattle.renews.proofs.renew_all.Statement.{statement}
 use Rattle.renews.proofs.renew_all.Tie as tie
 
