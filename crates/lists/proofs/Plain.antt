@@ -6,11 +6,11 @@ use Prim.Native.Nat.{ℕ, zero, suc, _+_, _-_, _≤_, _<_, zero-le, suc-le-suc}
 use native.Mathlib.Nat.{le-of-suc-le-suc, not-suc-le-zero}
 use native.Mathlib.Omega.{arith}
 use lib.Dec.{ltb}
-use lib.ListN.{length, take, drop, getD, length-reverse, List·getD-append}
-use lib.Seq.{drop-drop, getD-at}
+use lib.ListN.{length, take, drop, getD, length-reverse, length-map, length-drop, List·getD-append}
+use lib.Seq.{drop-drop, getD-at, take-all}
 use borrow.Author.Tests.{ltb-true, ltb-false}
 use Rattle.rules.specs.declared.Neighbor.{Neighbor}
-use Rattle.rules.specs.Lists.{sort}
+use Rattle.rules.specs.Lists.{nodeOf, nodesOf, distancesOf, sort}
 use Rattle.neighbor.specs.Holdable.{Holdable}
 use Rattle.lists.specs.Ascending.{AllHoldable, Perm, same, next, exchange, chain}
 use Rattle.lists.specs.All.{All}
