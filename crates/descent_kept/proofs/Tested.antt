@@ -27,8 +27,8 @@ use Rattle.steps.proofs.Formed.{kept-of}
 use Rattle.encoded.specs.Words.{Binary32}
 use Rattle.encoded.proofs.Same.{same-words, words-same, same-floats, floats-same}
 use Rattle.encoded.proofs.Rows.{all-ones, length-part-of, all-part, all-getD}
+use Rattle.encoded.proofs.Binary.{binary-entries}
 use Rattle.relay_kept.proofs.Lists.{binary-each, lists-formed, formed-lists}
-use Rattle.relay_kept.proofs.Tested.{binary-entries}
 use Rattle.descent_kept.specs.Formed.{Each, Few, Below, Fitting, Formed}
 use Rattle.descent_kept.proofs.Back.{descent-back}
 

@@ -32,12 +32,12 @@ use Rattle.lists.specs.All.{All}
 use Rattle.lists.proofs.Slices.{length-entries}
 use Rattle.encoded.specs.Words.{Binary32}
 use Rattle.encoded.proofs.Rows.{all-ones, length-part, all-part}
+use Rattle.encoded.proofs.Binary.{binary-entries}
 use Rattle.relay_kept.specs.Formed.{ListFormed, JobFormed, Formed}
 use Rattle.relay_kept.specs.Calls.{Sizes}
 use Rattle.relay_kept.proofs.Rows.{all-fail, none-hold, exactly}
 use Rattle.relay_kept.proofs.Lists.{list-formed, lists-formed}
 use Rattle.relay_kept.proofs.Jobs.{whole, pending-fresh}
-use Rattle.relay_kept.proofs.Tested.{binary-entries}
 
 -- ---- one job, and all
 

@@ -30,6 +30,7 @@ use Rattle.encoded.proofs.Same.{same-words, words-same, same-floats, floats-sam
 use Rattle.encoded.proofs.Rows.{all-ones, all-part, all-getD}
 use Rattle.encoded.proofs.Jobs.{job-readable}
 use Rattle.encoded.proofs.Back.{relay-back}
+use Rattle.encoded.proofs.Binary.{binary-zero, binary-entries, binary-padded, binary-rooms, jobs-binary}
 use Rattle.relay_kept.specs.Formed.{JobFormed, Formed}
 use Rattle.relay_kept.proofs.Rows.{inside}
 use Rattle.relay_kept.proofs.Lists.{list-formed, formed-list, lists-formed, formed-lists}
@@ -110,40 +111,11 @@ module _ {n k : ℕ} (r : Relay) (F : Formed n k r) where
 
 -- ---- and what is well formed is the encoding of a well-formed relay
 
-binary-zero : T (fits binary32 zero32)
-binary-zero = ofBits-fits binary32 0
-
-pub binary-entries : (m : ℕ) (us : List ℕ) (fs : List Float) → Binary32 fs → Binary32 (distancesOf (entries m us fs))
-unfolding entries distancesOf
-binary-entries zero us fs F = tt
-binary-entries (suc m) [] fs F = tt
-binary-entries (suc m) (u ∷ us) [] F = tt
-binary-entries (suc m) (u ∷ us) (f ∷ fs) F = (F .0, binary-entries m us fs (F .1))
-
-binary-padded : (m : ℕ) (xs : List Float) → Binary32 xs → Binary32 (padded m zero32 xs)
-unfolding padded
-binary-padded m xs X = all-append (λ (x : Float). T (fits binary32 x)) xs (replicate (m - length xs) zero32) X (zeros (m - length xs))
-  where
-    zeros : (i : ℕ) → Binary32 (replicate i zero32)
-    zeros zero = tt
-    zeros (suc i) = (binary-zero, zeros i)
-
 abbrev BinaryList : List Neighbor → Type 0
 BinaryList l = Binary32 (distancesOf l)
 
 abbrev BinaryJob : Job → Type 0
 BinaryJob j = T (fits binary32 (j .distance))
-
-binary-room : (m : ℕ) (ls : List (List Neighbor)) → All BinaryList ls → Binary32 (roomFloats m ls)
-unfolding roomFloats
-binary-room m [] L = tt
-binary-room m (l ∷ ls) L =
-    all-append (λ (x : Float). T (fits binary32 x)) (padded m zero32 (distancesOf l)) (roomFloats m ls) (binary-padded m (distancesOf l) (L .0)) (binary-room m ls (L .1))
-
-binary-jobs : (js : List Job) → All BinaryJob js → Binary32 (jobsFloats js)
-unfolding jobsFloats
-binary-jobs [] J = tt
-binary-jobs (j ∷ js) J = (J .0, binary-jobs js (J .1))
 
 jobs-of : (n : ℕ) (js : List Job) → All (λ (j : Job). jobFormed n j ≡ true) js → All BinaryJob js → All Readable js → All (JobFormed n) js
 jobs-of n [] A B C = tt
@@ -182,8 +154,8 @@ module _ (n k : ℕ) (us : List ℕ) (fs : List Float) (B : Binary32 fs) where
   binary-state : Binary32 (relayStateFloats k (relayIn n k us fs))
   unfolding relayStateFloats
   binary-state =
-      all-append P (roomFloats (k + 64) (r .lists)) (padded 64 zero32 (jobsFloats (r .jobs))) (binary-room (k + 64) (r .lists) binary-lists)
-      (binary-padded 64 (jobsFloats (r .jobs)) (binary-jobs (r .jobs) binary-in))
+      all-append P (roomFloats (k + 64) (r .lists)) (padded 64 zero32 (jobsFloats (r .jobs))) (binary-rooms (k + 64) (r .lists) binary-lists)
+      (binary-padded 64 (jobsFloats (r .jobs)) (jobs-binary (r .jobs) binary-in))
 
   pub record Tested : Type 0 where
     pub words : us ≡ relayState k (relayIn n k us fs)

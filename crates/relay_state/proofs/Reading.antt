@@ -23,7 +23,8 @@ use Rattle.lists.proofs.Plain.{all-take, all-append}
 use Rattle.encoded.specs.Words.{Binary32, joined, Readable, Fitting}
 use Rattle.encoded.proofs.Jobs.{job-readable}
 use Rattle.encoded.proofs.Rows.{all-ones, all-drop}
-use Rattle.relay_state.proofs.Zeroed.{binary-entries, binary-rooms, binary-jobs}
+use Rattle.encoded.proofs.Binary.{binary-entries, binary-rooms}
+use Rattle.relay_state.proofs.Zeroed.{binary-jobs}
 
 -- ---- one for each place
 

@@ -19,6 +19,7 @@ use Rattle.lists.specs.All.{All}
 use Rattle.lists.proofs.Plain.{all-append}
 use Rattle.encoded.specs.Words.{Binary32}
 use Rattle.encoded.proofs.Same.{bits-same}
+use Rattle.encoded.proofs.Binary.{binary-padded, jobs-binary}
 use Rattle.zeros.specs.Zeros.{zeros}
 
 -- ---- zeros
@@ -52,33 +53,6 @@ are-floats zero = refl
 are-floats (suc m) = are-floats m
 
 -- ---- values of binary32
-
-binary-zeros : (m : ℕ) → Binary32 (replicate m zero32)
-binary-zeros zero = tt
-binary-zeros (suc m) = (ofBits-fits binary32 0, binary-zeros m)
-
-binary-padded : (m : ℕ) (xs : List Float) → Binary32 xs → Binary32 (padded m zero32 xs)
-unfolding padded
-binary-padded m xs X = all-append (λ (x : Float). T (fits binary32 x)) xs (replicate (m - length xs) zero32) X (binary-zeros (m - length xs))
-
-pub binary-entries : (m : ℕ) (ns : List ℕ) (ds : List Float) → Binary32 ds → Binary32 (distancesOf (entries m ns ds))
-unfolding entries distancesOf
-binary-entries zero ns ds D = tt
-binary-entries (suc m) [] ds D = tt
-binary-entries (suc m) (n ∷ ns) [] D = tt
-binary-entries (suc m) (n ∷ ns) (d ∷ ds) D = (D .0, binary-entries m ns ds (D .1))
-
--- the floats of a state
-pub binary-rooms : (m : ℕ) (ls : List (List Neighbor)) → All (λ (l : List Neighbor). Binary32 (distancesOf l)) ls → Binary32 (roomFloats m ls)
-unfolding roomFloats
-binary-rooms m [] L = tt
-binary-rooms m (l ∷ ls) L =
-    all-append (λ (x : Float). T (fits binary32 x)) (padded m zero32 (distancesOf l)) (roomFloats m ls) (binary-padded m (distancesOf l) (L .0)) (binary-rooms m ls (L .1))
-
-jobs-binary : (js : List Job) → All (λ (j : Job). T (fits binary32 (j .distance))) js → Binary32 (jobsFloats js)
-unfolding jobsFloats
-jobs-binary [] J = tt
-jobs-binary (j ∷ js) J = (J .0, jobs-binary js (J .1))
 
 pub binary-jobs : (m : ℕ) (js : List Job) → All (λ (j : Job). T (fits binary32 (j .distance))) js → Binary32 (padded m zero32 (jobsFloats js))
 binary-jobs m js J = binary-padded m (jobsFloats js) (jobs-binary js J)
