@@ -38,7 +38,7 @@ use Rattle.relay_kept.proofs.Jobs.{parts, holdable-job, jobs-formed, fo
 
 -- ---- lengths
 
-lengths-formed : (k : ℕ) (js : List Job) (w : ℕ) (ls : List (List Neighbor)) (i : ℕ) → lengthsFormed k js w ls ≡ true → i < length ls
+pub lengths-formed : (k : ℕ) (js : List Job) (w : ℕ) (ls : List (List Neighbor)) (i : ℕ) → lengthsFormed k js w ls ≡ true → i < length ls
     → length (getD ls i []) ≡ k + pendingAt (w + i) js
 unfolding lengthsFormed
 lengths-formed k js w [] i h l = absurd (not-suc-le-zero l)
@@ -51,7 +51,7 @@ lengths-formed k js w (x ∷ ls) (suc i) h l =
     let e : suc w + i ≡ w + suc i = omega arith in
     lengths-formed k js (suc w) ls i (b .1) (le-of-suc-le-suc l) ∙ ap (λ (v : ℕ). k + pendingAt v js) e
 
-formed-lengths : (k : ℕ) (js : List Job) (w : ℕ) (ls : List (List Neighbor)) → ((i : ℕ) → i < length ls → length (getD ls i []) ≡ k + pendingAt (w + i) js)
+pub formed-lengths : (k : ℕ) (js : List Job) (w : ℕ) (ls : List (List Neighbor)) → ((i : ℕ) → i < length ls → length (getD ls i []) ≡ k + pendingAt (w + i) js)
     → lengthsFormed k js w ls ≡ true
 unfolding lengthsFormed
 formed-lengths k js w [] f = refl

@@ -32,23 +32,14 @@ use Rattle.encoded.proofs.Rows.{all-drop}
 use Rattle.zeros.specs.Zeros.{zeros, allBelow}
 use Rattle.zeros.proofs.Laws as all
 use Rattle.jobs.specs.Jobs.{jobTest}
+use Rattle.relay_kept.proofs.Lists.{formed-lists, lists-formed}
+use Rattle.relay_kept.proofs.Tested.{formed-lengths, lengths-formed}
 use Rattle.relay_state.specs.State.{Sized, jobsTest, roomTest, roomAt}
 use Rattle.relay_state.proofs.Zeroed.{zeros-are, are-zeros, floats-are, are-floats}
 use Rattle.relay_state.proofs.Parts.{Sizes, sizes, from-jobs, Inside, inside}
 use Rattle.relay_state.proofs.Reading.{listOf, jobOf, jobsLong, lists-long, jobs-long, list-at, job-at, short, fitting, binary}
 
 -- ---- what row 12 is of all, of each
-
-lists-each : (n : ℕ) (ls : List (List Neighbor)) → listsFormed n ls ≡ true → (w : ℕ) → w < length ls → listFormed n (getD ls w []) ≡ true
-unfolding listsFormed
-lists-each n [] h w l = absurd (omega arith)
-lists-each n (x ∷ ls) h zero l = both (listFormed n x) (listsFormed n ls) h .0
-lists-each n (x ∷ ls) h (suc w) l = lists-each n ls (both (listFormed n x) (listsFormed n ls) h .1) w (omega arith)
-
-each-lists : (n : ℕ) (ls : List (List Neighbor)) → ((w : ℕ) → w < length ls → listFormed n (getD ls w []) ≡ true) → listsFormed n ls ≡ true
-unfolding listsFormed
-each-lists n [] f = refl
-each-lists n (x ∷ ls) f = together _ _ (f 0 (omega arith)) (each-lists n ls (λ (w : ℕ) (h : w < length ls). f (suc w) (omega arith)))
 
 jobs-each : (n : ℕ) (js : List Job) → jobsFormed n js ≡ true → (i : ℕ) → i < length js → jobFormed n (getD js i noJob) ≡ true
 unfolding jobsFormed
@@ -60,26 +51,6 @@ each-jobs : (n : ℕ) (js : List Job) → ((i : ℕ) → i < length js → jobFo
 unfolding jobsFormed
 each-jobs n [] f = refl
 each-jobs n (j ∷ js) f = together _ _ (f 0 (omega arith)) (each-jobs n js (λ (i : ℕ) (h : i < length js). f (suc i) (omega arith)))
-
-lengths-each : (k : ℕ) (js : List Job) (v : ℕ) (ls : List (List Neighbor)) → lengthsFormed k js v ls ≡ true → (w : ℕ) → w < length ls → length (getD ls w []) ≡ k + pendingAt (v + w) js
-unfolding lengthsFormed
-lengths-each k js v [] h w l = absurd (omega arith)
-lengths-each k js v (x ∷ ls) h zero l =
-    let e : v + 0 ≡ v = omega arith in
-    rw e (eqb-true (length x) (k + pendingAt v js) (both (eqb (length x) (k + pendingAt v js)) (lengthsFormed k js (suc v) ls) h .0))
-lengths-each k js v (x ∷ ls) h (suc w) l =
-    let e : v + suc w ≡ suc v + w = omega arith in
-    rw e (lengths-each k js (suc v) ls (both (eqb (length x) (k + pendingAt v js)) (lengthsFormed k js (suc v) ls) h .1) w (omega arith))
-
-each-lengths : (k : ℕ) (js : List Job) (v : ℕ) (ls : List (List Neighbor)) → ((w : ℕ) → w < length ls → length (getD ls w []) ≡ k + pendingAt (v + w) js) → lengthsFormed k js v ls ≡ true
-unfolding lengthsFormed
-each-lengths k js v [] f = refl
-each-lengths k js v (x ∷ ls) f =
-    let e : v + 0 ≡ v = omega arith in
-    together _ _ (eq-eqb (length x) (k + pendingAt v js) (rw e at (f 0 (omega arith))))
-    (each-lengths k js (suc v) ls (λ (w : ℕ) (h : w < length ls).
-    let g : v + suc w ≡ suc v + w = omega arith in
-    rw g at (f (suc w) (omega arith))))
 
 -- ---- row 12 as facts
 
@@ -121,9 +92,9 @@ module _ (n k : ℕ) (us : List ℕ) (fs : List Float) (B : Binary32 fs) where
       let jl = jobs-long n k us fs in
       together _ _ (same-words us (relayState k r) (f .words))
       (together _ _ (same-floats fs (relayStateFloats k r) (f .floats))
-      (together _ _ (each-lists n (r .lists) (λ (w : ℕ) l. ap (listFormed n) (list-at n k us fs w (omega arith)) ∙ f .lists w (omega arith)))
+      (together _ _ (formed-lists n (r .lists) (λ (w : ℕ) l. ap (listFormed n) (list-at n k us fs w (omega arith)) ∙ f .lists w (omega arith)))
       (together _ _
-      (each-lengths k (r .jobs) 0 (r .lists) (λ (w : ℕ) l.
+      (formed-lengths k (r .jobs) 0 (r .lists) (λ (w : ℕ) l.
       let e : 0 + w ≡ w = omega arith in
       rw e (ap length (list-at n k us fs w (omega arith)) ∙ f .lengths w (omega arith))))
       (together _ _ (ap not (ap (outside 1 64) jl ∙ f .count))
