@@ -34,18 +34,13 @@ use Rattle.zeros.proofs.Laws as all
 use Rattle.jobs.specs.Jobs.{jobTest}
 use Rattle.relay_kept.proofs.Lists.{formed-lists, lists-formed}
 use Rattle.relay_kept.proofs.Tested.{formed-lengths, lengths-formed}
+use Rattle.relay_kept.proofs.Jobs.{jobs-formed}
 use Rattle.relay_state.specs.State.{Sized, jobsTest, roomTest, roomAt}
 use Rattle.relay_state.proofs.Zeroed.{zeros-are, are-zeros, floats-are, are-floats}
 use Rattle.relay_state.proofs.Parts.{Sizes, sizes, from-jobs, Inside, inside}
 use Rattle.relay_state.proofs.Reading.{listOf, jobOf, jobsLong, lists-long, jobs-long, list-at, job-at, short, fitting, binary}
 
 -- ---- what row 12 is of all, of each
-
-jobs-each : (n : ℕ) (js : List Job) → jobsFormed n js ≡ true → (i : ℕ) → i < length js → jobFormed n (getD js i noJob) ≡ true
-unfolding jobsFormed
-jobs-each n [] h i l = absurd (omega arith)
-jobs-each n (j ∷ js) h zero l = both (jobFormed n j) (jobsFormed n js) h .0
-jobs-each n (j ∷ js) h (suc i) l = jobs-each n js (both (jobFormed n j) (jobsFormed n js) h .1) i (omega arith)
 
 each-jobs : (n : ℕ) (js : List Job) → ((i : ℕ) → i < length js → jobFormed n (getD js i noJob) ≡ true) → jobsFormed n js ≡ true
 unfolding jobsFormed
@@ -79,10 +74,10 @@ module _ (n k : ℕ) (us : List ℕ) (fs : List Float) (B : Binary32 fs) where
       record {
         words = words-same us (relayState k r) (p1 .0);
         floats = floats-same fs (relayStateFloats k r) B (binary n k us fs B) (p2 .0);
-        lists = λ (w : ℕ) (l : w < n). sym (ap (listFormed n) (list-at n k us fs w l)) ∙ lists-each n (r .lists) (p3 .0) w (omega arith);
-        lengths = λ (w : ℕ) (l : w < n). sym (ap length (list-at n k us fs w l)) ∙ lengths-each k (r .jobs) 0 (r .lists) (p4 .0) w (omega arith) ∙ ap (λ (v : ℕ). k + pendingAt v (r .jobs)) (let e : 0 + w ≡ w = omega arith in e);
+        lists = λ (w : ℕ) (l : w < n). sym (ap (listFormed n) (list-at n k us fs w l)) ∙ lists-formed n (r .lists) w (p3 .0) (omega arith);
+        lengths = λ (w : ℕ) (l : w < n). sym (ap length (list-at n k us fs w l)) ∙ lengths-formed k (r .jobs) 0 (r .lists) w (p4 .0) (omega arith) ∙ ap (λ (v : ℕ). k + pendingAt v (r .jobs)) (let e : 0 + w ≡ w = omega arith in e);
         count = sym (ap (outside 1 64) jl) ∙ not-true _ (p5 .0);
-        jobs = λ (i : ℕ) (l : i < jobsLong n k us fs). sym (ap (jobFormed n) (job-at n k us fs i l)) ∙ jobs-each n (r .jobs) (p5 .1) i (omega arith);
+        jobs = λ (i : ℕ) (l : i < jobsLong n k us fs). sym (ap (jobFormed n) (job-at n k us fs i l)) ∙ all-at (λ (j : Job). jobFormed n j ≡ true) (r .jobs) i noJob (jobs-formed n (r .jobs) (p5 .1)) (omega arith);
       }
 
   pub formed : Facts n k us fs → relayFormed n k us fs ≡ true
