@@ -15,26 +15,11 @@ use Rattle.rules.proofs.Loops.{first-holds}
 use Rattle.relay_kept.specs.Formed.{Formed}
 use Rattle.relay_kept.specs.Halves.{entryOf, halfAt, found, jobAfter}
 use Rattle.relay_kept.proofs.Kept.{moved-is, moved-formed}
+use Rattle.relay_kept.proofs.Stages.{steps-most, steps-popped, steps-next}
 use Rattle.orders.specs.Runs.{idle, movedIf, ran, count, stepsDone}
 use Rattle.orders.proofs.Kept.{goalOf, moved-keeps}
 
 -- ---- the steps of one job
-
-steps-le : (s : Stage) → stepsOf s ≤ 4
-unfolding stepsOf
-steps-le fresh = omega arith
-steps-le (looked taken) = omega arith
-steps-le (pushed taken) = omega arith
-steps-le (measured taken longer) = omega arith
-steps-le (popped taken longer) = omega arith
-
-steps-popped : (s : Stage) → isPopped s ≡ true → stepsOf s ≡ 4
-unfolding stepsOf isPopped
-steps-popped fresh h = absurd (true≢false (sym h))
-steps-popped (looked taken) h = absurd (true≢false (sym h))
-steps-popped (pushed taken) h = absurd (true≢false (sym h))
-steps-popped (measured taken longer) h = absurd (true≢false (sym h))
-steps-popped (popped taken longer) h = refl
 
 popped-steps : (s : Stage) → stepsOf s ≡ 4 → isPopped s ≡ true
 unfolding stepsOf isPopped
@@ -44,18 +29,10 @@ popped-steps (pushed taken) h = absurd (omega arith)
 popped-steps (measured taken longer) h = absurd (omega arith)
 popped-steps (popped taken longer) h = refl
 
-steps-next : (k : ℕ) (equal : Bool) (e : Neighbor) (l : List Neighbor) (s : Stage) → isPopped s ≡ false → stepsOf (nextStage k equal e l s) ≡ suc (stepsOf s)
-unfolding nextStage stepsOf isPopped
-steps-next k equal e l fresh h = refl
-steps-next k equal e l (looked taken) h = refl
-steps-next k equal e l (pushed taken) h = refl
-steps-next k equal e l (measured taken longer) h = refl
-steps-next k equal e l (popped taken longer) h = absurd (true≢false h)
-
 pub steps-bound : (j : Job) → stepsDone j ≤ 8
 steps-bound j =
-    let p = steps-le (j .first) in
-    let q = steps-le (j .second) in
+    let p = steps-most (j .first) in
+    let q = steps-most (j .second) in
     omega arith
 
 -- "each job takes eight"
@@ -69,8 +46,8 @@ finished-steps j h = go (isPopped (j .first)) (isPopped (j .second)) refl refl h
 
 pub steps-finished : (j : Job) → stepsDone j ≡ 8 → isFinished j ≡ true
 steps-finished j h =
-    let p = steps-le (j .first) in
-    let q = steps-le (j .second) in
+    let p = steps-most (j .first) in
+    let q = steps-most (j .second) in
     rw (popped-steps (j .first) (omega arith), popped-steps (j .second) (omega arith))
 
 -- a move of an unfinished job is one step of it

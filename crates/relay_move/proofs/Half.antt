@@ -33,8 +33,9 @@ use Rattle.relay_kept.specs.Halves.{target, entryOf, stageOf, withStage, found,
 use Rattle.relay_kept.proofs.Jobs.{pending-le}
 use Rattle.relay_kept.proofs.Kept.{moved-is, job-formed, target-below, list-after, after-formed}
 use Rattle.relay_kept.proofs.Tested.{tested}
+use Rattle.relay_kept.proofs.Stages.{steps-most, steps-popped, steps-next}
 use Rattle.relay_move.specs.Moves.{listIn, Room, wordsWith, floatsWith, jobPlace, halfStage, HalfReady, offered, wordsAfter, HalfMoved, Stepped}
-use Rattle.relay_move.proofs.Stages.{halfOf, stage-back, steps-next, steps-few, steps-popped, steps-most, bit-few, eqb-turned, kept-words, word-u, word-v, word-steps, word-taken, word-longer}
+use Rattle.relay_move.proofs.Stages.{halfOf, stage-back, steps-few, bit-few, eqb-turned, kept-words, word-u, word-v, word-steps, word-taken, word-longer}
 use Rattle.relay_move.proofs.Parts.{drop-with}
 use Rattle.relay_move.proofs.Encoding.{short-set, list-set, list-set-floats, job-set, job-set-floats}
 

@@ -32,14 +32,6 @@ stage-back (popped true false) = refl
 stage-back (popped false true) = refl
 stage-back (popped false false) = refl
 
-pub steps-next : (k : ℕ) (equal : Bool) (e : Neighbor) (l : List Neighbor) (s : Stage) → isPopped s ≡ false → stepsOf (nextStage k equal e l s) ≡ suc (stepsOf s)
-unfolding nextStage stepsOf isPopped
-steps-next k equal e l fresh h = refl
-steps-next k equal e l (looked t) h = refl
-steps-next k equal e l (pushed t) h = refl
-steps-next k equal e l (measured t m) h = refl
-steps-next k equal e l (popped t m) h = let z : _≡_ {A = ℕ} 0 1 = cc in absurd (omega arith)
-
 pub steps-few : (s : Stage) → isPopped s ≡ false → stepsOf s ≤ 3
 unfolding stepsOf isPopped
 steps-few fresh h = omega arith
@@ -47,22 +39,6 @@ steps-few (looked t) h = omega arith
 steps-few (pushed t) h = omega arith
 steps-few (measured t m) h = omega arith
 steps-few (popped t m) h = let z : _≡_ {A = ℕ} 0 1 = cc in absurd (omega arith)
-
-pub steps-popped : (s : Stage) → isPopped s ≡ true → stepsOf s ≡ 4
-unfolding stepsOf isPopped
-steps-popped fresh h = let z : _≡_ {A = ℕ} 0 1 = cc in absurd (omega arith)
-steps-popped (looked t) h = let z : _≡_ {A = ℕ} 0 1 = cc in absurd (omega arith)
-steps-popped (pushed t) h = let z : _≡_ {A = ℕ} 0 1 = cc in absurd (omega arith)
-steps-popped (measured t m) h = let z : _≡_ {A = ℕ} 0 1 = cc in absurd (omega arith)
-steps-popped (popped t m) h = refl
-
-pub steps-most : (s : Stage) → stepsOf s ≤ 4
-unfolding stepsOf
-steps-most fresh = omega arith
-steps-most (looked t) = omega arith
-steps-most (pushed t) = omega arith
-steps-most (measured t m) = omega arith
-steps-most (popped t m) = omega arith
 
 pub bit-few : (b : Bool) → bit b ≤ 1
 bit-few true = omega arith
