@@ -28,13 +28,14 @@ use Rattle.relay_kept.specs.Formed.{Formed}
 use Rattle.relay_kept.specs.Halves.{target, entryOf, stageOf}
 use Rattle.relay_kept.proofs.Calls.{move-leaves, move-refused, close-gives, close-refused}
 use Rattle.relay_kept.proofs.Opening.{passed-open}
+use Rattle.relay_kept.proofs.Stages.{report-first, report-second, length-reports}
 use Rattle.orders.specs.Runs.{ran, count}
 use Rattle.orders.specs.Least.{IsLeast}
 use Rattle.orders.specs.Demand3.{Asked, pairs, u, v, apart, held, offered, State, moveOf, after, Finishes, Room, closed, listed, StandsIn, Finished, Demand3}
 use Rattle.orders.proofs.Waiting.{held-left}
 use Rattle.orders.proofs.Runs.{ran-formed, none-unfinished}
 use Rattle.orders.proofs.Least.{least-is}
-use Rattle.orders.proofs.Reports.{Told, refusedAt, ran-told, taken-up, report-first, report-second, length-reports}
+use Rattle.orders.proofs.Reports.{Told, refusedAt, ran-told, taken-up}
 use Rattle.orders.proofs.Asked.{asked-opens}
 use Rattle.orders.proofs.Called.{Opens, opens-passed, sizes, opening-formed, stateOf, after-is}
 use Rattle.orders.proofs.Ends.{left-opened, goal-opened, end-long, end-list}

@@ -245,20 +245,3 @@ taken-up {n} {k} {goal} r T i b p z h q f pn e = go (takenOf (stageOf b (jobAt r
         absurd (omega arith)
 
 -- ---- the reports that a close writes
-
-pub report-first : (js : List Job) (i : ℕ) → i < length js → getD (reportsOf js) (2 * i) 0 ≡ bit (takenOf (getD js i noJob .first))
-unfolding reportsOf
-report-first [] i h = absurd (not-suc-le-zero h)
-report-first (j ∷ js) zero h = refl
-report-first (j ∷ js) (suc i) h = let e : 2 * suc i ≡ suc (suc (2 * i)) = omega arith in rw e (report-first js i (le-of-suc-le-suc h))
-
-pub report-second : (js : List Job) (i : ℕ) → i < length js → getD (reportsOf js) (2 * i + 1) 0 ≡ bit (takenOf (getD js i noJob .second))
-unfolding reportsOf
-report-second [] i h = absurd (not-suc-le-zero h)
-report-second (j ∷ js) zero h = refl
-report-second (j ∷ js) (suc i) h = let e : 2 * suc i + 1 ≡ suc (suc (2 * i + 1)) = omega arith in rw e (report-second js i (le-of-suc-le-suc h))
-
-pub length-reports : (js : List Job) → length (reportsOf js) ≡ 2 * length js
-unfolding reportsOf
-length-reports [] = refl
-length-reports (j ∷ js) = let e = length-reports js in omega arith

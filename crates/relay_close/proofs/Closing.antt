@@ -31,6 +31,7 @@ use Rattle.relay_kept.proofs.Jobs.{pending-popped}
 use Rattle.relay_move.specs.Moves.{jobPlace}
 use Rattle.relay_move.proofs.Half.{taken-is}
 use Rattle.relay_move.proofs.Table.{jobs-are, few-jobs}
+use Rattle.relay_kept.proofs.Stages.{report-first, report-second, length-reports}
 use Rattle.relay_close.specs.Close.{Done, ListsWritten}
 use Rattle.relay_close.proofs.Blocks.{Blocks, blocks-turn, blocks-end, copied}
 
@@ -162,25 +163,6 @@ module _ {n k : ℕ} {us : List ℕ} {fs : List Float} (d : Done n k us fs) wher
       record { nodes-are = blocks-end a (omega arith); distances-are = blocks-end b (omega arith) }
 
 -- ---- the reports
-
-length-reports : (js : List Job) → length (reportsOf js) ≡ 2 * length js
-unfolding reportsOf
-length-reports [] = refl
-length-reports (j ∷ js) = let e = length-reports js in omega arith
-
-report-first : (js : List Job) (i : ℕ) → i < length js → getD (reportsOf js) (2 * i) 0 ≡ bit (takenOf (getD js i noJob .first))
-unfolding reportsOf
-report-first [] i h = absurd (omega arith)
-report-first (j ∷ js) zero h = refl
-report-first (j ∷ js) (suc i) h =
-    ap (λ (m : ℕ). getD (reportsOf (j ∷ js)) m 0) (let e : 2 * suc i ≡ suc (suc (2 * i)) = omega arith in e) ∙ report-first js i (omega arith)
-
-report-second : (js : List Job) (i : ℕ) → i < length js → getD (reportsOf js) (2 * i + 1) 0 ≡ bit (takenOf (getD js i noJob .second))
-unfolding reportsOf
-report-second [] i h = absurd (omega arith)
-report-second (j ∷ js) zero h = refl
-report-second (j ∷ js) (suc i) h =
-    ap (λ (m : ℕ). getD (reportsOf (j ∷ js)) m 0) (let e : 2 * suc i + 1 ≡ suc (suc (2 * i + 1)) = omega arith in e) ∙ report-second js i (omega arith)
 
 module _ {n k : ℕ} {us : List ℕ} {fs : List Float} (d : Done n k us fs) {dst now : List ℕ} where
   pub reports-turn : (i : ℕ) → i < length (relayIn n k us fs .jobs) → length dst ≡ 128 → length (relayIn n k us fs .jobs) ≤ 64 → Written (reportsOf (relayIn n k us fs .jobs)) dst now (2 * i)
