@@ -243,5 +243,3 @@ taken-up {n} {k} {goal} r T i b p z h q f pn e = go (takenOf (stageOf b (jobAt r
         let c = subst (λ (x : Float). lt x (jobAt r i .distance) ≡ true) (same-distance b) a in
         let u = ltb-true (toBits binary32 (jobAt r i .distance)) (toBits binary32 (jobAt r i .distance)) (sym (bits-lt (jobAt r i .distance) (jobAt r i .distance) D D) ∙ c) in
         absurd (omega arith)
-
--- ---- the reports that a close writes
