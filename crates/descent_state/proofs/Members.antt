@@ -40,10 +40,6 @@ module _ (n : ℕ) (us : List ℕ) (long : length us ≡ 65) where
           rw (l, ne-eqb x 64 (λ (q : x ≡ 64). absurd (omega arith)))
 
   module _ (h : len ≤ 64) where
-    pub members-are : membersIn us ≡ take len (drop 1 us)
-    unfolding membersIn
-    members-are = ap (take len) (take-all 64 (drop 1 us) (simp length-drop (omega arith)))
-
     test-is : memberTest n us ≡ (zeros (drop (len + 1) us) && membersFormed n (take len (drop 1 us)))
     unfolding memberTest memberWords membersIn padded sameWords
     test-is = go us long h

@@ -74,12 +74,6 @@ module _ {A : Type 0} where
   all-getD P (x ∷ xs) zero z X Z = X .0
   all-getD P (x ∷ xs) (suc i) z X Z = all-getD P xs i z (X .1) Z
 
-  -- ---- padded rows
-
-  pub padded-full : (n : ℕ) (z : A) (xs : List A) → length xs ≡ n → padded n z xs ≡ xs
-  unfolding padded
-  padded-full n z xs h = let e : n - length xs ≡ 0 = omega arith in rw e (append-nil xs)
-
   -- ---- rows of w places
 
   pub length-joined : (w : ℕ) (rs : List (List A)) → Rows w rs → length (joined rs) ≡ length rs * w

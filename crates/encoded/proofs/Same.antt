@@ -69,14 +69,3 @@ floats-same xs ys X Y h = go xs ys X Y (words-same (map (toBits binary32) xs) (m
 map-append : {A B : Type 0} (f : A → B) (xs ys : List A) → map f (xs ++ ys) ≡ map f xs ++ map f ys
 map-append f [] ys = refl
 map-append {A} {B} f (x ∷ xs) ys = ap (λ (l : List B). f x ∷ l) (map-append f xs ys)
-
-map-long : {A B : Type 0} (f : A → B) (xs : List A) → length (map f xs) ≡ length xs
-map-long f [] = refl
-map-long f (x ∷ xs) = ap suc (map-long f xs)
-
-pub same-floats-append : (xs ys zs ws : List Float) → length xs ≡ length ys → sameFloats (xs ++ zs) (ys ++ ws) ≡ (sameFloats xs ys && sameFloats zs ws)
-unfolding sameFloats
-same-floats-append xs ys zs ws h =
-    let t = toBits binary32 in
-    rw (map-append t xs zs, map-append t ys ws)
-    (same-words-append (map t xs) (map t ys) (map t zs) (map t ws) (map-long t xs ∙ h ∙ sym (map-long t ys)))

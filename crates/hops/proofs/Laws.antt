@@ -40,10 +40,6 @@ getD-puts a (x ∷ vs) flags v z h =
     go false true e = refl
     go false false e = getD-set-other flags x v a z (eqb-false v x e)
 
-length-flags : (n : ℕ) (taken : List ℕ) → length (flagsOf n taken) ≡ n
-unfolding flagsOf mark
-length-flags n taken = length-puts 1 taken (replicate n 0) ∙ length-replicate n 0
-
 getD-flags : (n : ℕ) (taken : List ℕ) (v : ℕ) → v < n → getD (flagsOf n taken) v 0 ≡ cond (has v taken) 1 0
 unfolding flagsOf mark
 getD-flags n taken v h =

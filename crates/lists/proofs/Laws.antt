@@ -120,19 +120,6 @@ module _ (k : ℕ) where
   same-insertAll es xs ys h =
       sym (take-insertAll es xs) ∙ ap (λ (l : List Neighbor). take k (insertAll es l)) h ∙ take-insertAll es ys
 
-  -- a push that keeps the least k, as `push_cut` does it
-  abbrev pub pushCut : Neighbor → List Neighbor → List Neighbor
-  pushCut e xs = take k (insert e xs)
-
-  pub pushCuts : (es xs : List Neighbor) → through pushCut es (take k xs) ≡ take k (insertAll es xs)
-  unfolding insertAll through
-  pushCuts [] xs = refl
-  pushCuts (e ∷ es) xs = ap (through pushCut es) (take-insert k e xs) ∙ pushCuts es (insert e xs)
-
-  pub least-pushCuts : (es : List Neighbor) → through pushCut es [] ≡ least k es
-  unfolding least sort
-  least-pushCuts es = ap (through pushCut es) (sym (take-nil k)) ∙ pushCuts es []
-
 -- ---- all of a list
 
 pub insertAll-append : (es fs xs : List Neighbor) → insertAll (es ++ fs) xs ≡ insertAll fs (insertAll es xs)
@@ -187,11 +174,6 @@ pub holdable-take : (k : ℕ) (xs : List Neighbor) → AllHoldable xs → AllHol
 holdable-take zero xs X = tt
 holdable-take (suc k) [] X = tt
 holdable-take (suc k) (x ∷ xs) X = (X .0, holdable-take k xs (X .1))
-
-pub holdable-drop : (k : ℕ) (xs : List Neighbor) → AllHoldable xs → AllHoldable (drop k xs)
-holdable-drop zero xs X = X
-holdable-drop (suc k) [] X = tt
-holdable-drop (suc k) (x ∷ xs) X = holdable-drop k xs (X .1)
 
 pub holdable-perm : {xs ys : List Neighbor} → Perm xs ys → AllHoldable xs → AllHoldable ys
 holdable-perm same X = X

@@ -108,13 +108,6 @@ unfolding entries nodesOf distancesOf
 entries-of [] = refl
 entries-of (e ∷ es) = ap (λ (l : List Neighbor). e ∷ l) (entries-of es)
 
-pub holdable-entries : (n : ℕ) (ns : List ℕ) (ds : List Float) (d : Float) → ((i : ℕ) → i < n → Holdable (getD ds i d)) → AllHoldable (entries n ns ds)
-unfolding entries
-holdable-entries zero ns ds d h = tt
-holdable-entries (suc n) [] ds d h = tt
-holdable-entries (suc n) (x ∷ ns) [] d h = tt
-holdable-entries (suc n) (x ∷ ns) (y ∷ ds) d h = (h 0 (suc-le-suc zero-le), holdable-entries n ns ds d (λ (i : ℕ) (l : i < n). h (suc i) (suc-le-suc l)))
-
 -- ---- the search for a place from the front: i entries are passed
 
 pub record Passed (ns : List ℕ) (ds : List Float) (len : ℕ) (e : Neighbor) (i : ℕ) : Type 0 where

@@ -57,36 +57,3 @@ contexts-told (c ∷ cs) xs l h =
           reversed-new = move i 130 ∙ f .reversed-new;
           reversed-old = move i 195 ∙ f .reversed-old;
         }
-
--- one context written list by list
-pub context-put : (c : Context) (xs a b d e : List ℕ) → length xs ≡ 260 → a ≡ memberWords (c .new) → b ≡ memberWords (c .old) → d ≡ memberWords (c .reversed-new) → e ≡ memberWords (c .reversed-old)
-    → length a ≡ 65 → length b ≡ 65 → length d ≡ 65 → length e ≡ 65 → putMid 195 65 (putMid 130 65 (putMid 65 65 (putMid 0 65 xs a) b) d) e ≡ contextWords (c ∷ [])
-context-put c xs a b d e l A B D E la lb ld le =
-    let x1 = putMid 0 65 xs a in
-    let x2 = putMid 65 65 x1 b in
-    let x3 = putMid 130 65 x2 d in
-    let x4 = putMid 195 65 x3 e in
-    let l1 : length x1 ≡ 260 = put-length 0 65 xs a (omega arith) la ∙ l in
-    let l2 : length x2 ≡ 260 = put-length 65 65 x1 b (omega arith) lb ∙ l1 in
-    let l3 : length x3 ≡ 260 = put-length 130 65 x2 d (omega arith) ld ∙ l2 in
-    let l4 : length x4 ≡ 260 = put-length 195 65 x3 e (omega arith) le ∙ l3 in
-    contexts-told (c ∷ []) x4 l4
-    (λ i h. let z : i ≡ 0 = omega arith in rw z
-    (record {
-      new =
-          put-low 195 65 x3 e (omega arith) le 0 65 (omega arith) ∙ put-low 130 65 x2 d (omega arith) ld 0 65 (omega arith)
-          ∙ put-low 65 65 x1 b (omega arith) lb 0 65 (omega arith) ∙ put-area 0 65 xs a (omega arith) la ∙ A;
-      old = put-low 195 65 x3 e (omega arith) le 65 65 (omega arith) ∙ put-low 130 65 x2 d (omega arith) ld 65 65 (omega arith) ∙ put-area 65 65 x1 b (omega arith) lb ∙ B;
-      reversed-new = put-low 195 65 x3 e (omega arith) le 130 65 (omega arith) ∙ put-area 130 65 x2 d (omega arith) ld ∙ D;
-      reversed-old = put-area 195 65 x3 e (omega arith) le ∙ E;
-    }))
-
-pub put-four : (xs a b d e : List ℕ) → length xs ≡ 260 → length a ≡ 65 → length b ≡ 65 → length d ≡ 65 → length e ≡ 65 → length (putMid 195 65 (putMid 130 65 (putMid 65 65 (putMid 0 65 xs a) b) d) e) ≡ 260
-put-four xs a b d e l la lb ld le =
-    let x1 = putMid 0 65 xs a in
-    let x2 = putMid 65 65 x1 b in
-    let x3 = putMid 130 65 x2 d in
-    let l1 : length x1 ≡ 260 = put-length 0 65 xs a (omega arith) la ∙ l in
-    let l2 : length x2 ≡ 260 = put-length 65 65 x1 b (omega arith) lb ∙ l1 in
-    let l3 : length x3 ≡ 260 = put-length 130 65 x2 d (omega arith) ld ∙ l2 in
-    put-length 195 65 x3 e (omega arith) le ∙ l3

@@ -75,9 +75,6 @@ idle-false r i h = go (leb (length (r .jobs)) i) refl h
     go true e h = absurd (true≢false h)
     go false e h = (leb-false (length (r .jobs)) i e, h)
 
-pub busy : (r : Relay) (i : ℕ) → i < length (r .jobs) → isFinished (jobAt r i) ≡ false → idle r i ≡ false
-busy r i h f = rw (lt-leb (length (r .jobs)) i h, f)
-
 pub resting : (r : Relay) (i : ℕ) → i < length (r .jobs) → idle r i ≡ true → isFinished (jobAt r i) ≡ true
 resting r i h e = rw (lt-leb (length (r .jobs)) i h) at e
 
@@ -106,11 +103,6 @@ ran-formed {n} {k} = ran-keeps k (Formed n k) (λ (r : Relay) (i : ℕ) (h : i <
 pub record Aims (n k : ℕ) (goal : ℕ → List Neighbor) (r : Relay) : Type 0 where
   pub formed : Formed n k r
   pub aims : (w : ℕ) → w < n → goalOf k r w ≡ goal w
-
-pub ran-aims : {n k : ℕ} {goal : ℕ → List Neighbor} (r : Relay) (is : List ℕ) → Aims n k goal r → Aims n k goal (ran k is r)
-ran-aims {n} {k} {goal} =
-    ran-keeps k (Aims n k goal) (λ (r : Relay) (i : ℕ) (h : i < length (r .jobs)) (f : isFinished (jobAt r i) ≡ false) (A : Aims n k goal r).
-    record { formed = moved-formed r (A .formed) i h; aims = λ (w : ℕ) (wn : w < n). moved-keeps r (A .formed) i h w wn ∙ A .aims w wn })
 
 -- ---- counted
 

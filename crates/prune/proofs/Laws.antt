@@ -66,13 +66,6 @@ below-entry n (suc len) i (x ∷ ns) [] a X l h k = absurd (not-suc-le-zero k)
 below-entry n (suc len) zero (x ∷ ns) (y ∷ ds) a X l h k = X .0
 below-entry n (suc len) (suc i) (x ∷ ns) (y ∷ ds) a X l h k = below-entry n len i ns ds a (X .1) (le-of-suc-le-suc l) (le-of-suc-le-suc h) (le-of-suc-le-suc k)
 
-pub below-entries : (n len : ℕ) (ns : List ℕ) (ds : List Float) (a : ℕ) → ((i : ℕ) → i < len → getD ns i a < n) → AllBelow n (entries len ns ds)
-unfolding entries
-below-entries n zero ns ds a f = tt
-below-entries n (suc len) [] ds a f = tt
-below-entries n (suc len) (x ∷ ns) [] a f = tt
-below-entries n (suc len) (x ∷ ns) (y ∷ ds) a f = (f 0 (suc-le-suc zero-le), below-entries n len ns ds a (λ (i : ℕ) (l : i < len). f (suc i) (suc-le-suc l)))
-
 pub below-append : (n : ℕ) (xs ys : List Neighbor) → AllBelow n xs → AllBelow n ys → AllBelow n (xs ++ ys)
 below-append n xs ys X Y = all-append (λ (e : Neighbor). nodeOf e < n) xs ys X Y
 

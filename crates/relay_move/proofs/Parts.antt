@@ -80,13 +80,6 @@ module _ {n k : ℕ} {us : List ℕ} {fs : List Float} {w : ℕ} (z : Sized n k 
   wide-row : length row ≡ k + 64
   wide-row = length-padded (k + 64) 0 (nodesOf l) (let e = length-nodes l in omega arith)
 
-  pub length-with : length (wordsWith n k w l us) ≡ length us
-  length-with =
-      let b = inside w z below in
-      let to = b .to in
-      let words = b .sizes .all-words in
-      simp length-set (put-length (w * (k + 64)) (k + 64) us row (omega arith) wide-row)
-
   pub drop-with : (a : ℕ) → n * (k + 64) + n ≤ a → drop a (wordsWith n k w l us) ≡ drop a us
   drop-with a h =
       let b = inside w z below in

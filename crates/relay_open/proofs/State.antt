@@ -28,10 +28,6 @@ use Rattle.relay_open.specs.Open.{firstJobs, JobsWritten, ListsPut, Dist
 use Rattle.relay_open.proofs.Rooms.{rooms-long}
 
 module _ {A : Type 0} where
-  -- a part put in front, and one put behind it
-  put-first : (v : ℕ) (xs ys : List A) → putMid 0 v xs ys ≡ ys ++ drop v xs
-  put-first v xs ys = refl
-
   -- the last part
   put-last : (a v : ℕ) (xs ys front : List A) → take a xs ≡ front → length xs ≤ a + v → putMid a v xs ys ≡ front ++ ys
   put-last a v xs ys front e h =

@@ -43,11 +43,6 @@ pub fn job_at(n: usize, k: usize, job: usize) -> usize {
     sum(cases::area(n, sum(k, 65)), sum(1, cases::area(15, job)))
 }
 
-/// The place of job `job`'s distance.
-pub fn distance_at(n: usize, k: usize, job: usize) -> usize {
-    sum(cases::area(n, sum(k, 64)), job)
-}
-
 /// How many words a state is.
 pub fn words_long(n: usize, k: usize) -> usize {
     sum(cases::area(n, sum(k, 65)), 1024)

@@ -125,9 +125,3 @@ module _ (c p : ℕ) (flags : List Bool) (inside : p < length flags) (word : p /
           bitAt-clear p (pairWords c flags) j long-enough ∙ ap (λ (b : Bool). not (eqb p j) && b) (pairs-bit c flags j h)
           ∙ and-cond (eqb p j) (getD flags j false)
           ∙ sym (pairs-bit c (set flags p false) j h ∙ getD-changed flags p j false false inside)
-
--- flags written and read back
-pub flags-back : (c n : ℕ) (flags : List Bool) → length flags ≡ n → ((p : ℕ) → p < n → p / 32 < c) → each (λ (p : ℕ). bitAt (pairWords c flags) p ∷ []) n ≡ flags
-flags-back c n flags e inside =
-    ext-getD false (ones (bitAt (pairWords c flags)) n) flags (length-ones (bitAt (pairWords c flags)) n ∙ sym e)
-    (λ p h. let l = length-ones (bitAt (pairWords c flags)) n in let b : p < n = omega arith in getD-ones (bitAt (pairWords c flags)) n p false b ∙ pairs-bit c flags p (inside p b))
