@@ -9,7 +9,6 @@ use lib.ListN.{length, take, drop, getD, replicate, length-append, length-map}
 use lib.Seq.{take-at, drop-at, drop-drop}
 use lib.Ieee.{Float}
 use Rattle.rules.specs.Loops.{each}
-use Rattle.rules.specs.Numbers.{most}
 use Rattle.rules.specs.Calls.{descentWords}
 use Rattle.rules.specs.Descent.{Context, Descent}
 use Rattle.rules.specs.Places.{padded, listWords, listFloats, listsIn}

@@ -2,21 +2,20 @@
 use mathlib.Core.Path.{_≡_, refl}
 use mathlib.Core.Bool.{true, _&&_}
 use mathlib.Core.List.{List, [], _∷_}
-use Prim.Native.Nat.{ℕ, _+_, _*_, _≤_, _<_}
+use Prim.Native.Nat.{ℕ, _+_, _*_, _<_}
 use native.Mathlib.Omega.{arith}
 use lib.Dec.{T, ltb}
-use lib.ListN.{length, take, drop, getD, length-take}
+use lib.ListN.{length, drop}
 use lib.Ieee.{Float, binary32, fits}
 use borrow.Author.Tests.{ltb-true, lt-ltb}
 use Rattle.rules.specs.declared.Neighbor.{Neighbor}
 use Rattle.rules.specs.Loops.{part}
-use Rattle.rules.specs.Numbers.{most}
 use Rattle.rules.specs.Lists.{entries, distancesOf}
 use Rattle.rules.specs.Calls.{descentWords}
 use Rattle.rules.specs.Offers.{listsFormed}
 use Rattle.rules.specs.Descent.{Context, Descent, listAt}
 use Rattle.rules.specs.Places.{sameWords, sameFloats, listFloats, listsIn}
-use Rattle.rules.specs.DescentPlaces.{descentState, membersIn, contextIn, bitAt, descentIn, membersFormed, contextsFormed, descentFormed}
+use Rattle.rules.specs.DescentPlaces.{descentState, contextIn, bitAt, descentIn, membersFormed, contextsFormed, descentFormed}
 use Rattle.rules.proofs.Tests.{both, together}
 use Rattle.rules.proofs.Loops.{length-ones}
 use Rattle.rules.proofs.Places.{length-members}

@@ -9,7 +9,7 @@ use lib.Ieee.{Float}
 use Rattle.rules.specs.declared.Neighbor.{Neighbor}
 use Rattle.rules.specs.Loops.{part}
 use Rattle.rules.specs.Distance.{zero32}
-use Rattle.rules.specs.Lists.{entries, nodesOf, distancesOf, nodeOf}
+use Rattle.rules.specs.Lists.{entries, nodesOf, distancesOf}
 use Rattle.rules.specs.Places.{padded, listWords, listFloats, listsIn}
 use Rattle.rules.specs.RelayPlaces.{roomWords, roomFloats, lengthsOf}
 use Rattle.rules.proofs.Places.{length-padded}

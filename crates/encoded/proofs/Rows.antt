@@ -1,17 +1,12 @@
 -- Rows one behind the other: where each stands, and a row put in another's place. Assumes nothing.
 use mathlib.Core.Path.{_≡_, refl, sym, ap, _∙_}
-use mathlib.Core.Bool.{Bool, true, false}
-use mathlib.Core.List.{List, [], _∷_, _++_, append-assoc, append-nil, map}
-use Prim.Native.Nat.{ℕ, zero, suc, _+_, _*_, _-_, _≤_, _<_}
+use mathlib.Core.List.{List, [], _∷_, _++_, append-assoc, map}
+use Prim.Native.Nat.{ℕ, zero, suc, _+_, _*_, _≤_, _<_}
 use native.Mathlib.Nat.{suc-mul, zero-mul, le-of-suc-le-suc, not-suc-le-zero, le-refl, mul-le-mul-right}
 use native.Mathlib.Omega.{arith}
-use lib.Dec.{ltb}
-use lib.ListN.{length, take, drop, getD, set, length-append, length-drop, length-replicate, List·getD-append}
-use lib.Seq.{length-take-le, take-at, drop-at, drop-drop, getD-at, getD-drop, take-suc, take-all, drop-append-add, take-append-add}
-use borrow.Author.Tests.{ltb-true, ltb-false}
+use lib.ListN.{length, take, drop, getD, set, length-append, length-drop}
+use lib.Seq.{length-take-le, take-at, drop-at, drop-drop, getD-drop, take-suc, take-all, drop-append-add, take-append-add}
 use Rattle.rules.specs.Loops.{each, part, putPart}
-use Rattle.rules.specs.Places.{padded}
-use Rattle.rules.proofs.Loops.{length-each, length-ones}
 use Rattle.lists.specs.All.{All}
 use Rattle.lists.proofs.Plain.{all-append, all-take}
 use Rattle.encoded.specs.Words.{joined, Rows}

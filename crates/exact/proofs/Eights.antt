@@ -1,8 +1,8 @@
 -- The distances of eight nodes to all, eight to a node: one more node's written, and one node's read. Assumes nothing.
-use mathlib.Core.Path.{_≡_, refl, sym, ap, _∙_}
+use mathlib.Core.Path.{_≡_, refl, ap, _∙_}
 use mathlib.Core.Bool.{Bool, true, false}
 use mathlib.Core.List.{List}
-use Prim.Native.Nat.{ℕ, suc, _+_, _-_, _*_, _≤_, _<_}
+use Prim.Native.Nat.{ℕ, suc, _+_, _*_, _≤_, _<_}
 use native.Mathlib.Nat.{suc-mul, mul-le-mul-right}
 use native.Mathlib.Omega.{arith}
 use lib.Dec.{eqb}
@@ -12,7 +12,6 @@ use lib.Ieee.{Float, nan}
 use borrow.Author.Tests.{eqb-true, eqb-false}
 use Rattle.rules.specs.Distance.{totalOf, zero32, answer, carried, distanceOf, nodesApart, between, lanesOf}
 use Rattle.metrics.proofs.Symmetry.{between-symmetric}
-use Rattle.neighbor.specs.Holdable.{Holdable}
 use Rattle.neighbor.proofs.Bits.{holdable-between}
 use Rattle.kernels.specs.Eight.{Holds, Totals}
 use Rattle.kernels.proofs.Pairs.{total-is}

@@ -8,16 +8,16 @@ use native.Mathlib.Numerals.{add-one}
 use native.Mathlib.Omega.{arith}
 use lib.Dec.{T, eqb, ltb, leb}
 use lib.ListN.{length, take, drop, getD, length-append, length-map, length-reverse, List·getD-append, List·getD-map}
-use lib.Seq.{take-nil, getD-at, getD-take, take-at, drop-at, take-all, length-take-le}
-use lib.Ieee.{Float, nan, binary32, lt, toBits, ofBits}
-use borrow.Author.Tests.{ltb-true, ltb-false, le-ltb, eqb-true, eqb-false, eq-eqb, ne-eqb, leb-true, le-leb, lt-leb}
+use lib.Seq.{take-nil, getD-take, take-at, drop-at, take-all, length-take-le}
+use lib.Ieee.{Float, nan, lt}
+use borrow.Author.Tests.{ltb-false, eqb-true, eqb-false, eq-eqb, ne-eqb, leb-true, le-leb, lt-leb}
 use Rattle.rules.specs.declared.Neighbor.{Neighbor}
-use Rattle.rules.specs.Loops.{through, each, over}
+use Rattle.rules.specs.Loops.{through, over}
 use Rattle.rules.specs.Lists.{neighbor, nodeOf, nodesOf, entries, insert, place, insertAll, sort, least}
 use Rattle.rules.specs.Distance.{before, between}
 use Rattle.rules.specs.Rows.{emptyDistance}
 use Rattle.neighbor.specs.Holdable.{Holdable}
-use Rattle.neighbor.proofs.Bits.{holdable-empty, holdable-between, bits-lt, within-empty}
+use Rattle.neighbor.proofs.Bits.{holdable-between, within-empty}
 use Rattle.neighbor.proofs.Order.{asymmetric}
 use Rattle.rules.specs.Build.{Between, entry, others, exactList}
 use Rattle.rules.proofs.Loops.{length-ones, getD-ones}
@@ -27,7 +27,7 @@ use Rattle.lists.specs.Ascending.{AllHoldable, Ascending}
 use Rattle.lists.proofs.Laws.{take-insert, sort-append, length-least, place-le, place-behind, holdable-at, holdable-take, holdable-sort, ascending-take, ascending-sort}
 use Rattle.lists.proofs.Slices.{length-entries, getD-entries, nodesOf-entries, pushed-none}
 use Rattle.lists.proofs.Plain.{drop-later, getD-reverse, all-append, all-take, all-reverse, all-map, all-weaker, all-sort, all-holdable, map-same}
-use Rattle.exact.specs.Exact.{distancesFrom, always, apartIn, HoldsRow, Other, farthest, PutEight, Eight, Offered, Considered, Gathered, Listed, Exact}
+use Rattle.exact.specs.Exact.{distancesFrom, always, apartIn, HoldsRow, Other, farthest, Offered, Gathered, Listed, Exact}
 
 -- ---- the distances of a node to all
 

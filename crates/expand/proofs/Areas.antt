@@ -10,7 +10,6 @@ use lib.Ieee.{Float}
 use borrow.Rule.Slice.PartMut.{putMid}
 use Rattle.rules.specs.declared.Neighbor.{Neighbor}
 use Rattle.rules.specs.Lists.{entries, insert}
-use Rattle.rules.specs.Search.{joins}
 use Rattle.lists.specs.Lists.{Pushed}
 use Rattle.lists.proofs.Slices.{take-entries}
 use Rattle.buffers.specs.Area.{area}

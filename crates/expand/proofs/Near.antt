@@ -1,12 +1,12 @@
 -- An entry beyond the farthest best can be passed over: it would end its row, and so would all that stand behind it. Assumes nothing.
 use mathlib.Core.Path.{_≡_, refl, sym, ap, _∙_, subst}
-use mathlib.Core.Bool.{Bool, true, false, cond, true≢false, _&&_, _||_}
+use mathlib.Core.Bool.{Bool, true, false, cond, _||_}
 use mathlib.Core.List.{List, [], _∷_, _++_}
-use Prim.Native.Nat.{ℕ, zero, suc, _-_, _≤_, _<_}
+use Prim.Native.Nat.{ℕ, suc, _-_, _≤_, _<_}
 use native.Mathlib.Omega.{arith}
 use borrow.Author.Tests.{lt-ltb, le-ltb, ltb-true, ltb-false, ne-eqb}
 use lib.ListN.{length, take, getD}
-use lib.Ieee.{Float, binary32, toBits, lt, eq}
+use lib.Ieee.{Float, binary32, toBits, lt}
 use Rattle.rules.specs.declared.Distance.{Distance}
 use Rattle.rules.specs.declared.Distance.the-variants.{Fit, Unfit}
 use Rattle.rules.specs.declared.Neighbor.{Neighbor}
@@ -17,7 +17,7 @@ use Rattle.neighbor.specs.Holdable.{Holdable}
 use Rattle.neighbor.proofs.Bits.{bits-lt, bits-eq, holdable-distance}
 use Rattle.neighbor.proofs.Order.{irreflexive}
 use Rattle.lists.specs.All.{All}
-use Rattle.lists.specs.Ascending.{AllHoldable, NoneBefore, Ascending}
+use Rattle.lists.specs.Ascending.{AllHoldable, Ascending}
 use Rattle.lists.proofs.Laws.{length-insert, insert-is-perm, holdable-at, holdable-insert, holdable-take, ascending-insert, ascending-take, none-at}
 use Rattle.lists.proofs.Plain.{all-at, all-take, all-perm}
 use Rattle.expand.specs.Steps.{worksNear, visitNear, visitsNear}

@@ -2,12 +2,12 @@
 use mathlib.Core.Path.{_≡_, refl, _∙_}
 use mathlib.Core.Bool.{Bool, true, false, cond}
 use mathlib.Core.List.{List, [], _∷_, _++_, map}
-use Prim.Native.Nat.{ℕ, zero, suc, _+_, _-_, _≤_, _<_}
+use Prim.Native.Nat.{ℕ, zero, suc, _+_, _≤_, _<_}
 use native.Mathlib.Nat.{le-of-suc-le-suc, not-suc-le-zero}
 use native.Mathlib.Omega.{arith}
 use borrow.Author.Tests.{ltb-true}
 use lib.Dec.{eqb, ltb}
-use lib.ListN.{length, getD, set, length-set, length-append}
+use lib.ListN.{length, getD, length-set, length-append}
 use Rattle.rules.specs.declared.Distance.{Distance}
 use Rattle.rules.specs.declared.Distance.the-variants.{Fit, Unfit}
 use Rattle.rules.specs.declared.Neighbor.{Neighbor}

@@ -10,7 +10,7 @@ use borrow.Author.Tests.{eq-eqb, ne-eqb, lt-ltb, le-ltb, ltb-true, ltb-false}
 use lib.Dec.{eqb, ltb, leb}
 use lib.ListN.{length, take, drop, getD, drop-of-length-le, length-drop}
 use lib.Seq.{drop-cons}
-use lib.Ieee.{Float, nan, inf, fin, binary32, toBits, ne}
+use lib.Ieee.{Float, nan, binary32, toBits}
 use Rattle.rules.specs.declared.Neighbor.{Neighbor}
 use Rattle.rules.specs.Loops.{each, part}
 use Rattle.rules.specs.Distance.{before, fit}

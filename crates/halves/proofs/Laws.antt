@@ -1,11 +1,10 @@
 -- What one step of half a job leaves. Assumes nothing.
 use mathlib.Core.Path.{_≡_, refl, sym, ap, _∙_}
-use mathlib.Core.Bool.{Bool, true, false, not, cond, _&&_}
-use mathlib.Core.List.{List, [], _∷_, _++_}
-use Prim.Native.Nat.{ℕ, zero, suc, _+_, _-_, _≤_, _<_, min}
-use native.Mathlib.Nat.{not-suc-le-zero}
+use mathlib.Core.Bool.{Bool, not, _&&_}
+use mathlib.Core.List.{List, _∷_, _++_}
+use Prim.Native.Nat.{ℕ, zero, suc, _+_, _-_, _≤_, _<_}
 use native.Mathlib.Omega.{arith}
-use borrow.Author.Tests.{eq-eqb, ne-eqb, lt-ltb, le-ltb}
+use borrow.Author.Tests.{eq-eqb, ne-eqb}
 use lib.Dec.{eqb, ltb}
 use lib.ListN.{length, take, drop, set, replicate, length-set, take-append-drop}
 use lib.Seq.{drop-at, drop-drop, drop-cons, drop-set-add, length-take-le}
@@ -13,15 +12,14 @@ use lib.Ieee.{Float}
 use Rattle.rules.specs.declared.Neighbor.{Neighbor}
 use Rattle.rules.specs.Distance.{zero32}
 use Rattle.rules.specs.Lists.{entries, nodesOf, distancesOf, insert}
-use Rattle.rules.specs.Offers.{look, measure, push, pop}
-use Rattle.rules.specs.Relay.{Stage, fresh, looked, pushed, measured, popped, takenOf, longerOf, bit, nextStage, nextList}
+use Rattle.rules.specs.Offers.{look, pop}
+use Rattle.rules.specs.Relay.{Stage, takenOf, longerOf, bit, nextStage, nextList}
 use Rattle.rules.specs.Places.{padded}
 use Rattle.rules.specs.RelayPlaces.{stageIn}
 use Rattle.lists.specs.Lists.{Pushed, Popped}
 use Rattle.lists.proofs.Laws.{length-insert}
 use Rattle.lists.proofs.Slices.{length-entries, nodesOf-entries, distancesOf-entries}
 use Rattle.lists.proofs.Plain.{length-nodes, length-distances}
-use Rattle.halves.specs.declared.Flags.{Flags}
 use Rattle.halves.specs.Halves.{NextFlags, Roomed, NextList}
 
 -- ---- the flags

@@ -1,28 +1,25 @@
 -- The contexts of a well-formed state, copied: the same contexts, with lists that can be walked. Assumes nothing.
 use mathlib.Core.Path.{_≡_, refl, sym, ap, _∙_, subst}
-use mathlib.Core.Bool.{Bool, true, false, _&&_, true≢false}
-use mathlib.Core.List.{List, [], _∷_, _++_}
-use Prim.Native.Nat.{ℕ, zero, suc, _+_, _-_, _*_, _≤_, _<_}
+use mathlib.Core.Bool.{Bool, true, false, true≢false}
+use mathlib.Core.List.{List, [], _∷_}
+use Prim.Native.Nat.{ℕ, _+_, _*_, _≤_, _<_}
 use native.Mathlib.Omega.{arith}
 use borrow.Author.Tests.{ltb-true, ltb-false}
 use lib.Dec.{ltb}
-use lib.ListN.{length, take, drop, getD, length-take, length-drop}
-use lib.Seq.{length-take-le, take-take, take-at, drop-drop, getD-take, getD-drop}
-use lib.Ieee.{Float}
-use Rattle.rules.specs.Loops.{each, over}
-use Rattle.rules.specs.Calls.{descentWords}
-use Rattle.rules.specs.Descent.{Context, Descent}
+use lib.ListN.{length, take, drop, getD, length-drop}
+use lib.Seq.{length-take-le, drop-drop}
+use Rattle.rules.specs.Loops.{each}
+use Rattle.rules.specs.Descent.{Context}
 use Rattle.rules.specs.Places.{sameWords}
-use Rattle.rules.specs.DescentPlaces.{memberWords, membersIn, contextIn, membersFormed, descentIn, descentFormed}
+use Rattle.rules.specs.DescentPlaces.{memberWords, membersIn, contextIn, membersFormed}
 use Rattle.rules.proofs.Tests.{both}
 use Rattle.rules.proofs.Loops.{each-alike}
 use Rattle.rules.proofs.Places.{members-front}
-use Rattle.lists.specs.All.{All}
 use Rattle.zeros.specs.Zeros.{allBelow}
 use Rattle.zeros.proofs.Laws.{all-at}
 use Rattle.members.proofs.Laws.{area-in}
-use Rattle.passes.specs.Passes.{Below, Members, Contexted, contextsIn, ManyContexted}
-use Rattle.descent_state.specs.State.{Sized, memberTest}
+use Rattle.passes.specs.Passes.{Below, Members, contextsIn, ManyContexted}
+use Rattle.descent_state.specs.State.{memberTest}
 use Rattle.descent_state.proofs.Members.{too-long}
 use Rattle.descent_state.proofs.Contexts.{listTest}
 use Rattle.descent_kept.proofs.Tested.{members-below}

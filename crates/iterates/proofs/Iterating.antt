@@ -1,19 +1,19 @@
 -- From the meetings to the renewal: what a state holds when all pairs have met, and the whole iteration. Assumes nothing.
-use mathlib.Core.Path.{_≡_, refl, sym, ap, _∙_, subst}
-use mathlib.Core.List.{List, [], _∷_, _++_}
+use mathlib.Core.Path.{_≡_, sym, ap, _∙_, subst}
+use mathlib.Core.List.{List, [], _++_}
 use Prim.Native.Nat.{ℕ, _+_, _*_, _≤_, _<_}
 use native.Mathlib.Omega.{arith}
-use lib.ListN.{length, take, drop, getD, take-append-drop}
+use lib.ListN.{length, take, drop, take-append-drop}
 use lib.Seq.{take-take, take-all, drop-drop}
 use lib.Ieee.{Float}
 use Rattle.rules.specs.declared.Neighbor.{Neighbor}
-use Rattle.rules.specs.Loops.{each, part}
+use Rattle.rules.specs.Loops.{part}
 use Rattle.rules.specs.Lists.{entries, nodesOf}
 use Rattle.rules.specs.Distance.{between}
 use Rattle.rules.specs.Build.{Between}
-use Rattle.rules.specs.Descent.{Descent, Met, listAt, renewed, iterated}
+use Rattle.rules.specs.Descent.{Met, listAt, renewed, iterated}
 use Rattle.rules.specs.Places.{listWords, listFloats, listsIn}
-use Rattle.rules.specs.DescentPlaces.{contextWords, pairWords, descentState, descentIn}
+use Rattle.rules.specs.DescentPlaces.{contextWords, descentState, descentIn}
 use Rattle.rules.proofs.Loops.{getD-ones}
 use Rattle.neighbor.proofs.Bits.{holdable-between}
 use Rattle.metrics.proofs.Fitness.{between-fit}
@@ -22,15 +22,13 @@ use Rattle.lists.proofs.Slices.{nodesOf-entries}
 use Rattle.buffers.specs.Area.{area}
 use Rattle.visits.specs.Marks as visits
 use Rattle.meets.specs.Meets.{marksAt, Game}
-use Rattle.renews.specs.Renews.{Source}
 use Rattle.renews.specs.Renews as renews
 use Rattle.renewals.specs.Renewals.{Ready, Held, StateRenewed}
 use Rattle.descent_state.proofs.Whole.{length-part, words-again, floats-again}
-use Rattle.descent_kept.specs.Formed.{Formed}
 use Rattle.descent_kept.proofs.Contexts.{none-above}
 use Rattle.descent_kept.proofs.Kept.{all-met}
 use Rattle.descent_kept.proofs.Lists as kept
-use Rattle.iterates.specs.Iterates.{Fit, unmet, allMet, MetIn, IteratedIn}
+use Rattle.iterates.specs.Iterates.{Fit, allMet, MetIn, IteratedIn}
 use Rattle.iterates.proofs.Meeting.{read}
 
 module _ {dimension n k : ℕ} {lanes : List Float} {us : List ℕ} {fs : List Float} (game : Game dimension n k lanes us fs) (good : Fit n k us fs) where

@@ -1,32 +1,29 @@
 -- The passes over a well-formed state: what they start from, and what they leave. Assumes nothing.
 use mathlib.Core.Path.{_≡_, refl, sym, ap, _∙_, subst}
-use mathlib.Core.Bool.{Bool, true, not, _&&_}
-use mathlib.Core.List.{List, [], _∷_, _++_}
-use Prim.Native.Nat.{ℕ, _+_, _-_, _*_, _≤_, _<_}
+use mathlib.Core.Bool.{true}
+use mathlib.Core.List.{List, _++_}
+use Prim.Native.Nat.{ℕ, _*_, _≤_}
 use native.Mathlib.Omega.{arith}
 use lib.ListN.{length, take, drop, length-drop}
 use lib.Seq.{length-take-le, take-take, take-at}
 use lib.Ieee.{Float}
 use borrow.Rule.Slice.PartMut.{midOf}
-use Rattle.rules.specs.Loops.{each, over}
-use Rattle.rules.specs.Calls.{descentWords}
+use Rattle.rules.specs.Loops.{over}
 use Rattle.rules.specs.Build.{Between}
 use Rattle.rules.specs.Offers.{listsFormed}
-use Rattle.rules.specs.Descent.{Context, Descent, Met, meetAll}
+use Rattle.rules.specs.Descent.{Context, meetAll}
 use Rattle.rules.specs.Places.{listsIn}
-use Rattle.rules.specs.DescentPlaces.{bitAt, contextIn, descentIn, descentFormed}
+use Rattle.rules.specs.DescentPlaces.{descentIn}
 use Rattle.rules.proofs.Tests.{both}
 use Rattle.zeros.specs.Zeros.{allBelow}
-use Rattle.visits.specs.Marks as visits
 use Rattle.meets.specs.Meets.{marksAt, Game, Holds, Does}
 use Rattle.passes.specs.Passes.{contextsIn, ManyContexted}
 use Rattle.descent_state.specs.State.{Sized}
 use Rattle.descent_state.proofs.Contexts.{listTest}
 use Rattle.descent_state.proofs.Whole.{whole-is}
-use Rattle.descent_kept.specs.Formed.{Fitting, Formed}
 use Rattle.descent_kept.proofs.Back.{pairs-in}
 use Rattle.descent_kept.proofs.Tested.{Tested, tested}
-use Rattle.iterates.specs.Iterates.{Fit, unmet, allMet, MetIn}
+use Rattle.iterates.specs.Iterates.{Fit, unmet, MetIn}
 use Rattle.iterates.proofs.Contexts.{contexts-copied, contexts-walkable}
 
 module _ {dimension n k : ℕ} {lanes : List Float} {us : List ℕ} {fs : List Float} (game : Game dimension n k lanes us fs) (good : Fit n k us fs) where

@@ -1,19 +1,18 @@
 -- The words of a job. Assumes nothing.
 use mathlib.Core.Path.{_≡_, refl, sym, ap, _∙_}
-use mathlib.Core.Bool.{Bool, true, false, cond, not, _&&_}
+use mathlib.Core.Bool.{Bool, true, false, _&&_}
 use mathlib.Core.List.{List, [], _∷_}
 use Prim.Native.Nat.{ℕ, zero, suc, _+_, _-_, _≤_, _<_}
-use native.Mathlib.Nat.{not-suc-le-zero}
 use native.Mathlib.Omega.{arith}
 use borrow.Author.Tests.{eq-eqb, ne-eqb, le-leb, lt-leb, lt-ltb, le-ltb}
 use lib.Dec.{eqb, leb, ltb}
 use lib.ListN.{length, take, drop, getD}
 use lib.Ieee.{Float, nan, binary32, toBits}
 use Rattle.rules.specs.Distance.{fit}
-use Rattle.rules.specs.Relay.{Stage, stepsOf, takenOf, longerOf, bit}
+use Rattle.rules.specs.Relay.{stepsOf, takenOf, longerOf, bit}
 use Rattle.rules.specs.Places.{padded, sameWords}
-use Rattle.rules.specs.RelayPlaces.{jobWords, jobIn, stageIn, stageFormed, jobFormed, pending}
-use Rattle.rules.proofs.Tests.{both, together, same-truth}
+use Rattle.rules.specs.RelayPlaces.{jobWords, jobIn, stageIn, stageFormed, jobFormed}
+use Rattle.rules.proofs.Tests.{both, same-truth}
 use Rattle.zeros.specs.Zeros.{zeros}
 use Rattle.jobs.specs.Jobs.{halfFormed, distanceFormed, jobTest, PendingHalf, PendingJob}
 

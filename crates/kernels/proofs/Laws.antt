@@ -1,17 +1,15 @@
 -- Laws of the block of eight, and of pairs that are fit. Assumes nothing.
 use mathlib.Core.Path.{_≡_, refl, sym, ap, subst, _∙_}
-use mathlib.Core.Bool.{Bool, true, false, not, cond}
-use mathlib.Core.List.{List, [], _∷_, _++_}
-use Prim.Native.Nat.{ℕ, zero, suc, _+_, _-_, _*_, _≤_, _<_}
-use native.Mathlib.Nat.{not-suc-le-zero}
+use mathlib.Core.Bool.{Bool, true, false, not}
+use mathlib.Core.List.{List}
+use Prim.Native.Nat.{ℕ, _+_, _-_, _*_, _≤_, _<_}
 use native.Mathlib.Omega.{arith}
-use lib.Dec.{T, ltb, eqb}
-use lib.ListN.{length, drop, getD, set, replicate, getD-replicate, length-append, length-set, List·getD-append}
-use lib.Seq.{getD-at, getD-set-same, getD-set-other, ext-getD}
+use lib.Dec.{T, eqb}
+use lib.ListN.{length, drop, getD, set, replicate, getD-replicate, length-set}
+use lib.Seq.{getD-set-same, getD-set-other, ext-getD}
 use lib.Ieee.{Float, nan, ne, toBits}
 use lib.Ieee.Compare.{differs-from-itself}
-use borrow.Author.Tests.{ltb-true, ltb-false, lt-ltb, le-ltb, eqb-true, eqb-false}
-use Rattle.rules.specs.Loops.{each}
+use borrow.Author.Tests.{lt-ltb, le-ltb, eqb-true, eqb-false}
 use Rattle.rules.specs.Distance.{lane, totalOf, fit, answer, carried, zero32, lanesOf}
 use Rattle.rules.proofs.Loops.{length-ones, getD-ones}
 use Rattle.metrics.proofs.Steps.{turn, ended}

@@ -2,7 +2,7 @@
 use mathlib.Core.Path.{_≡_, refl, sym, ap, subst, _∙_}
 use mathlib.Core.Bool.{Bool, true, false}
 use mathlib.Core.List.{List, [], _∷_}
-use Prim.Native.Nat.{ℕ, suc, _+_, _-_, _*_, _≤_, _<_}
+use Prim.Native.Nat.{ℕ, suc, _+_, _-_, _≤_, _<_}
 use native.Mathlib.Omega.{arith}
 use lib.Dec.{T, ltb, eqb}
 use lib.ListN.{length, getD}
@@ -14,7 +14,7 @@ use Rattle.rules.specs.Refusals.{passed, decide, row10, unfitAfter, firstUnfit}
 use Rattle.rules.proofs.Loops.{first-from, first-holds}
 use Rattle.metrics.proofs.Symmetry.{apart-symmetric}
 use Rattle.metrics.proofs.Pairs.{passes}
-use Rattle.kernels.specs.Eight.{column, held, Holds, Totals, AllFit, Clear}
+use Rattle.kernels.specs.Eight.{column, Holds, Totals, AllFit, Clear}
 use Rattle.kernels.proofs.Laws.{held-below}
 
 fit-apart : (x : Float) → fit x ≡ true → unfit (answer x) ≡ false

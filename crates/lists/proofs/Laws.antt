@@ -7,7 +7,7 @@ use native.Mathlib.Nat.{le-of-suc-le-suc, not-suc-le-zero, le-refl, zero-add, ad
 use native.Mathlib.Omega.{arith}
 use lib.Dec.{leb}
 use lib.ListN.{length, take, drop, getD, length-take}
-use lib.Seq.{take-all, take-take, take-nil}
+use lib.Seq.{take-all, take-take}
 use borrow.Author.Tests.{leb-true, leb-false}
 use Rattle.rules.specs.declared.Neighbor.{Neighbor}
 use Rattle.rules.specs.Loops.{through}

@@ -2,7 +2,7 @@
 use mathlib.Core.Path.{_≡_, refl, sym, ap, _∙_}
 use mathlib.Core.Bool.{true, false}
 use mathlib.Core.List.{List, [], _∷_, _++_}
-use Prim.Native.Nat.{ℕ, zero, suc, _+_, _-_, _≤_, _<_, zero-le, suc-le-suc, min}
+use Prim.Native.Nat.{ℕ, zero, suc, _+_, _-_, _≤_, _<_, zero-le, min}
 use native.Mathlib.Nat.{le-of-suc-le-suc, not-suc-le-zero, suc-add, add-suc, add-zero}
 use native.Mathlib.Numerals.{add-one, sub-one}
 use native.Mathlib.Omega.{arith}
@@ -13,8 +13,6 @@ use Rattle.rules.specs.declared.Neighbor.{Neighbor}
 use Rattle.rules.specs.Loops.{through}
 use Rattle.rules.specs.Distance.{before, zero32}
 use Rattle.rules.specs.Lists.{neighbor, nodeOf, nodesOf, distancesOf, entries, insert, place, insertAll, sort}
-use Rattle.neighbor.specs.Holdable.{Holdable}
-use Rattle.lists.specs.Ascending.{AllHoldable}
 use Rattle.lists.specs.Lists.{hole, PlaceFound, PushedCut, Pushed, Popped, SortedIn}
 use Rattle.lists.proofs.Laws.{place-here, place-later, place-nil, insert-place, length-insert, put-cut, take-min, take-before}
 

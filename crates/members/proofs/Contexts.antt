@@ -3,13 +3,11 @@ use mathlib.Core.Path.{_≡_, sym, ap, _∙_}
 use mathlib.Core.List.{List, [], _∷_, _++_}
 use Prim.Native.Nat.{ℕ, suc, _+_, _*_, _<_, zero-le, suc-le-suc}
 use native.Mathlib.Omega.{arith}
-use borrow.Rule.Slice.PartMut.{putMid}
 use lib.ListN.{length, take, drop, getD, take-append-drop, length-drop, drop-of-length-le}
 use lib.Seq.{drop-drop}
 use Rattle.rules.specs.Descent.{Context}
 use Rattle.rules.specs.DescentPlaces.{memberWords, contextWords}
 use Rattle.buffers.specs.Area.{area}
-use Rattle.buffers.proofs.Places.{put-length, put-area, put-low}
 
 pub noContext : Context
 noContext = record { new = []; old = []; reversed-new = []; reversed-old = [] }

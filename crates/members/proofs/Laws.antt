@@ -3,13 +3,13 @@ use mathlib.Core.Path.{_≡_, refl, sym, ap, _∙_}
 use mathlib.Core.List.{List, [], _∷_, _++_, append-assoc, append-nil}
 use Prim.Native.Nat.{ℕ, zero, suc, _+_, _-_, _≤_, _<_}
 use native.Mathlib.Omega.{arith}
-use lib.ListN.{length, take, drop, set, replicate, length-replicate, length-append, length-set, length-drop}
+use lib.ListN.{length, take, drop, set, replicate, length-replicate, length-set, length-drop}
 use lib.Seq.{take-length, take-take, length-take-le}
 use borrow.Rule.Slice.PartMut.{putMid, same-len-mid}
-use Rattle.rules.specs.Loops.{turns, each, over}
+use Rattle.rules.specs.Loops.{turns, over}
 use Rattle.rules.specs.Places.{padded}
 use Rattle.rules.specs.Descent.{Context}
-use Rattle.rules.specs.DescentPlaces.{memberWords, contextWords, membersIn}
+use Rattle.rules.specs.DescentPlaces.{memberWords, contextWords}
 
 drop-replicate : (n m : ℕ) (z : ℕ) → drop n (replicate m z) ≡ replicate (m - n) z
 drop-replicate zero m z = ap (λ (i : ℕ). replicate i z) (let e : m ≡ m - 0 = omega arith in e)

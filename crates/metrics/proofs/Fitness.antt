@@ -1,18 +1,17 @@
 -- What a fit distance is: a value of binary32 that is no NaN, not infinite and not negative. Assumes nothing.
 use mathlib.Core.Path.{_≡_, refl, sym, subst}
 use mathlib.Core.Bool.{Bool, true, false, cond}
-use mathlib.Core.List.{List, [], _∷_}
+use mathlib.Core.List.{List}
 use Prim.Native.Nat.{ℕ, _≤_}
 use native.Mathlib.Omega.{arith}
 use lib.Dec.{T}
 use lib.IntN.{ℤ}
 use lib.Ieee.{Float, nan, inf, fin, binary32, toBits, ofBits, fits}
-use lib.Ieee.Fits.{add-fits}
 use lib.Ieee.Bits.{ofBits-fits}
 use borrow.Author.Tests.{leb-true}
 use Rattle.rules.specs.declared.Distance.{Distance}
 use Rattle.rules.specs.declared.Distance.the-variants.{Fit, Unfit}
-use Rattle.rules.specs.Distance.{lane, totalOf, fit, answer, largest, zero32, distanceOf, unfit, carried, lanesOf, nodesApart, queryApart, between}
+use Rattle.rules.specs.Distance.{totalOf, fit, answer, largest, zero32, distanceOf, unfit, carried, lanesOf, nodesApart, queryApart, between}
 use Rattle.rules.proofs.Distances.{total-fits}
 
 -- ---- a fit value

@@ -13,7 +13,7 @@ use borrow.Author.Tests.{lt-ltb, le-ltb, ltb-false}
 use Rattle.rules.specs.declared.Distance.{Distance}
 use Rattle.rules.specs.declared.Distance.the-variants.{Fit}
 use Rattle.rules.specs.Distance.{totalOf, zero32, distanceOf, unfit, lanesOf, nodesApart, between}
-use Rattle.rules.specs.Refusals.{Row, passed, refused, code, decide, row10, unfitAfter, firstUnfit}
+use Rattle.rules.specs.Refusals.{passed, refused, code, decide, row10, unfitAfter, firstUnfit}
 use Rattle.metrics.specs.Finite.{AllFinite}
 use Rattle.metrics.proofs.Steps.{lanes-long, room}
 use Rattle.rules.proofs.Loops.{first-before}

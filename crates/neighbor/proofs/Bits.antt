@@ -2,7 +2,7 @@
 use mathlib.Core.Path.{_≡_, refl, sym, _∙_, ap, subst}
 use mathlib.Core.Logic.{_⊎_, inl, inr}
 use mathlib.Core.Bool.{Bool, true, false, cond, not, _&&_}
-use mathlib.Core.List.{List, [], _∷_}
+use mathlib.Core.List.{List}
 use Prim.Native.Nat.{ℕ, zero, suc, _+_, _-_, _*_, _/_, _%_, _^_, _<_, _≤_}
 use native.Mathlib.Nat.{le-trans, le-of-eq, le-of-lt, lt-of-le-of-lt, lt-of-lt-of-le, lt-irrefl, eq-or-lt-of-le, mul-assoc, mul-one, zero-add, mul-le-mul-right, le-of-mul-le-mul-right, mul-div-cancel, div-one, le-div-iff-mul-le, suc-mul, zero-mul, zero-div, le-of-suc-le-suc, lt-of-not-le}
 use native.Mathlib.Omega.{arith}
@@ -12,13 +12,13 @@ use lib.IntN.{ℤ, pos, negsuc}
 use lib.Pow.{pow-add, pow-pos, pow-lt}
 use lib.Ieee.{Float, nan, inf, fin, Format, binary32, prec, emax, low, up, down, size, toBits, ofBits, fits, lt, eq}
 use lib.Ieee.Digits.{size-lt, size-le, size-reaches, back}
-use lib.Ieee.Fits.{kept-lt, two, two-le-pos, and-l, and-r, add-fits}
+use lib.Ieee.Fits.{kept-lt, two, two-le-pos, and-l, and-r}
 use lib.Ieee.Bits.{ofBits-toBits, ofBits-fits}
 use lib.Ieee.Order.{transfer}
 use lib.Ieee.Nearest.{div-mono}
 use lib.Ieee.Positive.{num, den, den-pos}
 use Rattle.rules.specs.declared.Distance.the-variants.{Fit, Unfit}
-use Rattle.rules.specs.Distance.{lane, totalOf, zero32, fit, answer, distanceOf, carried, lanesOf, nodesApart, between}
+use Rattle.rules.specs.Distance.{totalOf, zero32, fit, answer, distanceOf, carried, lanesOf, nodesApart, between}
 use Rattle.rules.specs.Rows.{emptyDistance}
 use Rattle.rules.proofs.Distances.{total-fits}
 use Rattle.neighbor.specs.Holdable.{Holdable}

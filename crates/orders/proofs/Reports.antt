@@ -3,7 +3,7 @@ use mathlib.Core.Path.{_≡_, refl, sym, _∙_, subst}
 use mathlib.Core.Logic.{_⊎_, inl, inr}
 use mathlib.Core.Bool.{Bool, true, false, not, _&&_, _||_, cond, true≢false}
 use mathlib.Core.List.{List, [], _∷_}
-use Prim.Native.Nat.{ℕ, zero, suc, _+_, _-_, _*_, _≤_, _<_}
+use Prim.Native.Nat.{ℕ, zero, suc, _-_, _≤_, _<_}
 use native.Mathlib.Nat.{le-of-suc-le-suc, not-suc-le-zero}
 use native.Mathlib.Omega.{arith}
 use lib.Dec.{eqb, ltb}
@@ -16,7 +16,7 @@ use Rattle.rules.specs.Distance.{before, zero32}
 use Rattle.rules.specs.Lists.{neighbor, nodeOf, insert, insertAll}
 use Rattle.rules.specs.Search.{farthest}
 use Rattle.rules.specs.Offers.{look}
-use Rattle.rules.specs.Relay.{Stage, fresh, looked, pushed, measured, popped, isPopped, takenOf, Job, Relay, nextStage, equalNodes, isFinished, noJob, jobAt, moved, bit, reportsOf}
+use Rattle.rules.specs.Relay.{Stage, fresh, looked, pushed, measured, popped, isPopped, takenOf, Job, Relay, nextStage, equalNodes, isFinished, jobAt, moved}
 use Rattle.rules.proofs.Tests.{both}
 use Rattle.neighbor.specs.Holdable.{Holdable}
 use Rattle.neighbor.proofs.Bits.{bits-lt, bits-eq}

@@ -10,14 +10,14 @@ use lib.Seq.{getD-set-same, getD-set-other}
 use borrow.Author.Tests.{eqb-true, eqb-false, leb-true, leb-false, lt-leb}
 use Rattle.rules.specs.declared.Neighbor.{Neighbor}
 use Rattle.rules.specs.Loops.{through, firstFrom}
-use Rattle.rules.specs.Relay.{Stage, fresh, looked, pushed, measured, popped, stepsOf, isPopped, Job, Relay, nextStage, equalNodes, isFinished, noJob, jobAt, moved, lowestUnfinished}
+use Rattle.rules.specs.Relay.{Stage, fresh, looked, pushed, measured, popped, stepsOf, isPopped, Job, Relay, equalNodes, isFinished, noJob, jobAt, moved, lowestUnfinished}
 use Rattle.rules.proofs.Loops.{first-holds}
 use Rattle.relay_kept.specs.Formed.{Formed}
 use Rattle.relay_kept.specs.Halves.{entryOf, halfAt, found, jobAfter}
 use Rattle.relay_kept.proofs.Kept.{moved-is, moved-formed}
 use Rattle.relay_kept.proofs.Stages.{steps-most, steps-popped, steps-next}
 use Rattle.orders.specs.Runs.{idle, movedIf, ran, count, stepsDone}
-use Rattle.orders.proofs.Kept.{goalOf, moved-keeps}
+use Rattle.orders.proofs.Kept.{goalOf}
 
 -- ---- the steps of one job
 

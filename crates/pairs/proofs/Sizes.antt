@@ -1,21 +1,21 @@
 -- Floats of bounded size: sums and products of small ones are small, so a distance of small lanes is fit. Assumes nothing.
 use mathlib.Core.Path.{_≡_, refl, sym, ap, _∙_, subst}
-use mathlib.Core.Bool.{Bool, true, false, not, _&&_, _||_, Bool·beq, cond, true≢false}
+use mathlib.Core.Bool.{Bool, true, false, _&&_, _||_, Bool·beq, cond, true≢false}
 use mathlib.Core.List.{List, [], _∷_}
-use Prim.Native.Nat.{ℕ, zero, suc, _+_, _-_, _*_, _/_, _^_, _≤_, _<_}
+use Prim.Native.Nat.{ℕ, suc, _+_, _-_, _*_, _/_, _^_, _≤_, _<_}
 use native.Mathlib.Nat.{le-trans, le-of-eq, mul-comm, mul-assoc, mul-right-comm, mul-le-mul, mul-le-mul-right, le-of-mul-le-mul-right, mul-pos, mul-one, mul-mul-mul-comm, mul-lt-mul-of-pos-right, lt-of-le-of-lt, add-le-add, div-lt-iff-lt-mul, pow-suc, two-mul, le-refl}
 use native.Mathlib.Numerals.{add-one}
 use native.Mathlib.Omega.{arith}
 use borrow.Author.Tests.{le-leb}
-use lib.Dec.{T, ltb, leb, eqb, ltb→lt, eqb→eq}
+use lib.Dec.{T, ltb, eqb, ltb→lt, eqb→eq}
 use lib.IntN.{ℤ}
 use lib.Pow.{pow-add, pow-pos, pow-mono, pow-lt}
 use lib.ListN.{length, take, drop, getD, length-take}
 use lib.Seq.{take-suc, take-all}
-use lib.Ieee.{Float, nan, inf, fin, Format, binary32, up, down, round, sum, add, sub, neg, mul, le, lt, eq, unlike, toBits, ofBits}
+use lib.Ieee.{Float, nan, inf, fin, binary32, up, down, round, sum, add, sub, neg, mul, le, lt, eq, toBits, ofBits}
 use lib.Ieee as ieee
 use lib.Ieee.Digits.{size-le}
-use lib.Ieee.Fits.{up-pos, down-pos, kept-lt}
+use lib.Ieee.Fits.{down-pos, kept-lt}
 use lib.Ieee.Exact.{HasValue, round-exact}
 use lib.Ieee.Order.{round-mono}
 use lib.Ieee.Scale.{finite, round-val, round-under, grid}

@@ -1,8 +1,8 @@
 -- What a close writes: the lists, k entries each, and the reports. Assumes nothing.
 use mathlib.Core.Path.{_≡_, refl, sym, ap, _∙_}
-use mathlib.Core.Bool.{Bool, true, false, not, cond, _&&_}
-use mathlib.Core.List.{List, [], _∷_, _++_, append-nil}
-use Prim.Native.Nat.{ℕ, zero, suc, _+_, _-_, _*_, _≤_, _<_}
+use mathlib.Core.Bool.{true, false}
+use mathlib.Core.List.{List, [], _∷_, append-nil}
+use Prim.Native.Nat.{ℕ, suc, _+_, _-_, _*_, _≤_, _<_}
 use native.Mathlib.Nat.{suc-mul, mul-le-mul, mul-le-mul-right}
 use native.Mathlib.Omega.{arith}
 use borrow.Rule.Slice.PartMut.{putMid}
@@ -14,9 +14,9 @@ use Rattle.rules.specs.declared.Neighbor.{Neighbor}
 use Rattle.rules.specs.Loops.{part, over}
 use Rattle.rules.specs.Distance.{zero32}
 use Rattle.rules.specs.Lists.{nodesOf, distancesOf}
-use Rattle.rules.specs.Relay.{Job, Relay, noJob, jobAt, isPopped, isFinished, takenOf, bit, reportsOf}
+use Rattle.rules.specs.Relay.{Job, Relay, noJob, isPopped, isFinished, reportsOf}
 use Rattle.rules.specs.Places.{padded, listWords, listFloats}
-use Rattle.rules.specs.RelayPlaces.{pending, pendingAt, relayIn}
+use Rattle.rules.specs.RelayPlaces.{pendingAt, relayIn}
 use Rattle.rules.proofs.Tests.{both}
 use Rattle.lists.specs.All.{All}
 use Rattle.lists.proofs.Plain.{all-of, length-nodes, length-distances}

@@ -5,21 +5,20 @@ use mathlib.Core.List.{List, [], _∷_}
 use Prim.Native.Nat.{ℕ, zero, suc, _+_, _*_, _≤_, _<_}
 use native.Mathlib.Omega.{arith}
 use borrow.Author.Tests.{eq-eqb, ne-eqb, eqb-true, lt-ltb, le-ltb, ltb-false, not-false}
-use lib.Dec.{eqb, ltb}
+use lib.Dec.{eqb}
 use lib.ListN.{length, getD}
 use lib.Ieee.{Float}
 use Rattle.rules.specs.Loops.{anyOf, firstFrom}
 use Rattle.rules.specs.Numbers.{outside}
 use Rattle.rules.specs.Refusals.{code, passed, refused, decide, holds, notExactly, row2, row4, row6, row12, row13}
 use Rattle.rules.specs.Calls.{relayWords, relayFloats, closeRows}
-use Rattle.rules.specs.Relay.{Relay, isFinished, jobAt, lowestUnfinished}
+use Rattle.rules.specs.Relay.{isFinished, jobAt, lowestUnfinished}
 use Rattle.rules.specs.RelayPlaces.{relayIn, relayFormed}
 use Rattle.rules.specs.RelayCall.{CloseLent, closing, closeTable}
 use Rattle.rules.proofs.Loops.{first-before}
 use Rattle.rules.proofs.Tables.{passes, none-of, within}
 use Rattle.encoded.specs.Words.{Binary32}
 use Rattle.relay_state.specs.State.{Sized}
-use Rattle.relay_move.specs.Moves.{jobPlace}
 use Rattle.relay_move.proofs.Table.{jobs-are}
 use Rattle.relay_move.proofs.Half.{finished-is}
 use Rattle.relay_close.specs.Close.{lent, stepsLeft, Done}

@@ -11,18 +11,13 @@ use lib.Ieee.{Float}
 use Rattle.rules.specs.declared.Neighbor.{Neighbor}
 use Rattle.rules.specs.Loops.{putPart}
 use Rattle.rules.specs.Distance.{zero32}
-use Rattle.rules.specs.Lists.{nodesOf, distancesOf}
 use Rattle.rules.specs.Relay.{Job, Relay, noJob}
 use Rattle.rules.specs.Places.{padded}
 use Rattle.rules.specs.RelayPlaces.{roomWords, roomFloats, lengthsOf, jobWords, jobsWords, jobsFloats, relayState, relayStateFloats}
-use Rattle.rules.proofs.Places.{length-padded}
-use Rattle.lists.specs.All.{All}
-use Rattle.buffers.proofs.Places.{put-length}
-use Rattle.lists.proofs.Plain.{length-nodes, length-distances}
-use Rattle.encoded.specs.Words.{joined, Rows, Short}
+use Rattle.encoded.specs.Words.{joined, Short}
 use Rattle.encoded.proofs.Rows.{joined-set}
 use Rattle.encoded.proofs.Lists.{wordRow, floatRow, room-words, room-floats, word-rows, float-rows, length-room-words, length-room-floats, length-lengths}
-use Rattle.encoded.proofs.Jobs.{jobs-words, job-rows, length-jobWords, length-jobsWords, jobs-floats}
+use Rattle.encoded.proofs.Jobs.{jobs-words, job-rows, length-jobsWords, jobs-floats}
 use Rattle.relay_move.specs.Moves.{wordsWith, floatsWith, jobPlace}
 
 -- ---- a part put into a list of two

@@ -1,8 +1,8 @@
 -- One step of a job in the state: what stands where, that the step is ready, and what it leaves. Assumes nothing.
-use mathlib.Core.Path.{_≡_, refl, sym, ap, subst, _∙_}
+use mathlib.Core.Path.{_≡_, refl, sym, ap, _∙_}
 use mathlib.Core.Bool.{Bool, true, false, cond, not, _&&_}
-use mathlib.Core.List.{List, [], _∷_, _++_, map}
-use Prim.Native.Nat.{ℕ, zero, suc, _+_, _-_, _*_, _≤_, _<_}
+use mathlib.Core.List.{List, _++_, map}
+use Prim.Native.Nat.{ℕ, suc, _+_, _-_, _*_, _≤_, _<_}
 use native.Mathlib.Omega.{arith}
 use borrow.Author.Tests.{eq-eqb, ne-eqb}
 use borrow.Rule.Slice.PartMut.{putMid}
@@ -13,17 +13,15 @@ use lib.Ieee.{Float, nan}
 use Rattle.rules.specs.declared.Neighbor.{Neighbor}
 use Rattle.rules.specs.Loops.{part}
 use Rattle.rules.specs.Distance.{zero32}
-use Rattle.rules.specs.Lists.{neighbor, entries, nodesOf, distancesOf, insert}
+use Rattle.rules.specs.Lists.{neighbor, nodesOf, distancesOf}
 use Rattle.rules.specs.Relay.{Stage, looked, stepsOf, isPopped, takenOf, longerOf, bit, Job, Relay, jobAt, equalNodes, isFinished, nextStage, nextList, moved}
-use Rattle.rules.specs.Descent.{listAt}
 use Rattle.rules.specs.Places.{padded}
-use Rattle.rules.specs.RelayPlaces.{jobWords, jobsWords, stageIn, pendingAt, relayIn, relayState, relayStateFloats, relayFormed}
+use Rattle.rules.specs.RelayPlaces.{jobWords, jobsWords, stageIn, relayIn, relayState, relayStateFloats, relayFormed}
 use Rattle.lists.proofs.Laws.{length-insert}
-use Rattle.encoded.specs.Words.{Binary32, joined, Readable, Fitting}
+use Rattle.encoded.specs.Words.{Binary32, joined}
 use Rattle.encoded.proofs.Jobs.{length-jobWords}
 use Rattle.encoded.proofs.Back.{job-words-at, job-float-at}
 use Rattle.jobs.specs.Jobs.{keptWords}
-use Rattle.halves.specs.Halves.{Roomed}
 use Rattle.relay_state.specs.State.{Sized}
 use Rattle.relay_state.proofs.Parts.{getD-any, sizes, inside}
 use Rattle.relay_state.proofs.Reading.{list-at, short, fitting}

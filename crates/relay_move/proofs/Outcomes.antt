@@ -6,7 +6,7 @@ use Rattle.rules.specs.declared.Answer.{Answer}
 use Rattle.rules.specs.declared.Answer.the-variants.{Done, Refused}
 use Rattle.rules.specs.declared.Refusal.{Refusal}
 use Prim.Native.Nat.{ℕ}
-use Rattle.rules.specs.Refusals.{passed, decide, decisionOf, saidOf, noRefusal}
+use Rattle.rules.specs.Refusals.{passed, decide, decisionOf, saidOf}
 use Rattle.rules.specs.RelayCall.{MoveLent, MoveOutcome, moveTable, moveObeys, moveRule}
 use Rattle.rules.proofs.Answers.{same-answer}
 use Rattle.relay_move.specs.Moves.{Stepped}

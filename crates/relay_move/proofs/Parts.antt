@@ -1,12 +1,12 @@
 -- A list in its room of the state: lent, and put back. Assumes nothing.
-use mathlib.Core.Path.{_≡_, refl, sym, ap, _∙_}
+use mathlib.Core.Path.{_≡_, sym, ap, _∙_}
 use mathlib.Core.Bool.{Bool}
-use mathlib.Core.List.{List, _++_}
-use Prim.Native.Nat.{ℕ, _+_, _-_, _*_, _≤_, _<_}
+use mathlib.Core.List.{List}
+use Prim.Native.Nat.{ℕ, _+_, _*_, _≤_, _<_}
 use native.Mathlib.Omega.{arith}
 use borrow.Rule.Slice.PartMut.{putMid}
 use lib.Dec.{eqb}
-use lib.ListN.{length, take, drop, getD, set, length-drop, length-set}
+use lib.ListN.{length, take, drop, getD, set, length-drop}
 use lib.Seq.{length-take-le, take-all, drop-set-lt, getD-take, getD-drop}
 use lib.Ieee.{Float}
 use Rattle.rules.specs.declared.Neighbor.{Neighbor}
@@ -18,14 +18,14 @@ use Rattle.rules.specs.Places.{padded}
 use Rattle.relay_state.specs.State.{Sized}
 use Rattle.rules.specs.RelayPlaces.{relayIn}
 use Rattle.rules.proofs.Places.{length-padded}
-use Rattle.relay_state.proofs.Parts.{Sizes, sizes, Inside, inside}
+use Rattle.relay_state.proofs.Parts.{sizes, Inside, inside}
 use Rattle.relay_state.proofs.Reading.{jobs-long}
 use Rattle.halves.specs.declared.Flags.{Flags}
 use Rattle.halves.specs.Halves.{NextFlags, Roomed, NextList}
 use Rattle.buffers.proofs.Places.{put-length, put-high}
 use Rattle.lists.proofs.Plain.{length-nodes}
 use Rattle.jobs.specs.Jobs.{keptWords}
-use Rattle.relay_move.specs.Moves.{listIn, Room, wordsWith, floatsWith, ListStepped, jobPlace, halfStage, HalfReady, offered, HalfMoved}
+use Rattle.relay_move.specs.Moves.{listIn, Room, wordsWith, ListStepped, jobPlace, halfStage, HalfReady, offered, HalfMoved}
 
 module _ {n k : ℕ} {us : List ℕ} {fs : List Float} {w : ℕ} (z : Sized n k us fs) (r : Room n k us fs w) where
   pub top : Inside n k w (length us) (length fs)

@@ -1,14 +1,12 @@
 -- The stages of half a job, and the words of a job. Assumes nothing.
 use mathlib.Core.Path.{_≡_, refl, sym}
 use mathlib.Core.Bool.{Bool, true, false, cond}
-use mathlib.Core.List.{List}
 use Prim.Native.Nat.{ℕ, suc, _+_, _≤_}
 use native.Mathlib.Omega.{arith}
 use borrow.Author.Tests.{eqb-true, eqb-false, eq-eqb, ne-eqb}
 use lib.Dec.{eqb}
 use lib.ListN.{getD}
-use Rattle.rules.specs.declared.Neighbor.{Neighbor}
-use Rattle.rules.specs.Relay.{Stage, fresh, looked, pushed, measured, popped, stepsOf, isPopped, takenOf, longerOf, bit, Job, nextStage}
+use Rattle.rules.specs.Relay.{Stage, fresh, looked, pushed, measured, popped, stepsOf, isPopped, takenOf, longerOf, bit, Job}
 use Rattle.rules.specs.Places.{padded}
 use Rattle.rules.specs.RelayPlaces.{jobWords, stageIn}
 use Rattle.jobs.specs.Jobs.{keptWords}

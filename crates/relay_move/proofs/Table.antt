@@ -5,7 +5,7 @@ use mathlib.Core.List.{List, [], _∷_}
 use Prim.Native.Nat.{ℕ, suc, _+_, _*_, _≤_, _<_}
 use native.Mathlib.Nat.{mul-suc, mul-le-mul}
 use native.Mathlib.Omega.{arith}
-use borrow.Author.Tests.{eq-eqb, ne-eqb, eqb-true, le-leb, lt-leb, leb-false, leb-true, not-false}
+use borrow.Author.Tests.{eq-eqb, ne-eqb, eqb-true, le-leb, lt-leb, leb-false, not-false}
 use lib.Dec.{eqb, leb}
 use lib.ListN.{length, getD}
 use lib.Ieee.{Float}

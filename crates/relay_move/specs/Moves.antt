@@ -1,7 +1,7 @@
 -- What a step of a job leaves in the state. Assumes nothing.
 use mathlib.Core.Path.{_≡_}
 use mathlib.Core.Bool.{Bool, _||_}
-use mathlib.Core.List.{List, _++_}
+use mathlib.Core.List.{List}
 use Prim.Native.Nat.{ℕ, _+_, _*_, _≤_, _<_}
 use borrow.Rule.Slice.PartMut.{putMid}
 use lib.Dec.{eqb, leb}

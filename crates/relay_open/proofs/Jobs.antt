@@ -2,12 +2,12 @@
 use mathlib.Core.Path.{_≡_, refl, sym, ap, _∙_}
 use mathlib.Core.Bool.{cond}
 use mathlib.Core.List.{List, [], _∷_, _++_, append-assoc, append-nil}
-use Prim.Native.Nat.{ℕ, zero, suc, _+_, _-_, _*_, _/_, _≤_, _<_}
+use Prim.Native.Nat.{ℕ, suc, _+_, _-_, _*_, _/_, _≤_, _<_}
 use native.Mathlib.Nat.{mul-le-mul-right, div-add-mod'}
 use native.Mathlib.Numerals.{add-one}
 use native.Mathlib.Omega.{arith}
 use lib.Dec.{eqb}
-use lib.ListN.{length, set, getD, replicate, length-append, length-replicate, replicate-append-replicate}
+use lib.ListN.{length, set, replicate, length-append, length-replicate, replicate-append-replicate}
 use lib.Seq.{set-at}
 use lib.Ieee.{Float}
 use Rattle.rules.specs.Loops.{each}
@@ -20,7 +20,7 @@ use Rattle.rules.specs.RelayPlaces.{jobWords, jobsWords, jobsFloats}
 use Rattle.rules.proofs.Loops.{length-ones}
 use Rattle.rules.proofs.Places.{length-padded}
 use Rattle.encoded.proofs.Jobs.{length-jobsWords, length-jobsFloats}
-use Rattle.relay_open.specs.Open.{JobsIn, firstJobs, JobsWritten}
+use Rattle.relay_open.specs.Open.{firstJobs, JobsWritten}
 
 module _ {A : Type 0} (z : A) where
   -- the first of the zeros behind, written

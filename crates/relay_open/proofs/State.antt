@@ -1,28 +1,28 @@
 -- The parts of the state together: rooms, lengths and jobs. Assumes nothing.
-use mathlib.Core.Path.{_≡_, refl, sym, ap, _∙_}
+use mathlib.Core.Path.{_≡_, sym, ap, _∙_}
 use mathlib.Core.List.{List, [], _∷_, _++_, append-assoc, append-nil}
-use Prim.Native.Nat.{ℕ, zero, suc, _+_, _-_, _*_, _≤_, _<_}
+use Prim.Native.Nat.{ℕ, suc, _+_, _-_, _*_, _≤_, _<_}
 use native.Mathlib.Nat.{suc-mul, mul-le-mul-right}
 use native.Mathlib.Omega.{arith}
 use borrow.Rule.Slice.PartMut.{putMid}
-use lib.ListN.{length, take, drop, getD, replicate, length-append, length-drop, length-replicate, getD-replicate, drop-of-length-le}
-use lib.Seq.{take-at, take-take, take-all, length-take-le, ext-getD}
+use lib.ListN.{length, take, drop, replicate, length-append, length-drop, length-replicate, getD-replicate, drop-of-length-le}
+use lib.Seq.{take-at, take-all, length-take-le, ext-getD}
 use lib.Ieee.{Float}
 use Rattle.rules.specs.declared.Neighbor.{Neighbor}
 use Rattle.rules.specs.Loops.{each, part}
 use Rattle.rules.specs.Distance.{zero32}
-use Rattle.rules.specs.Lists.{entries, nodesOf, distancesOf}
+use Rattle.rules.specs.Lists.{entries}
 use Rattle.rules.specs.Refusals.{jobCount}
 use Rattle.rules.specs.Build.{Between}
-use Rattle.rules.specs.Relay.{Job, Relay, jobOf, opened}
+use Rattle.rules.specs.Relay.{Relay, jobOf, opened}
 use Rattle.rules.specs.Places.{padded, listsIn}
-use Rattle.rules.specs.RelayPlaces.{roomWords, roomFloats, lengthsOf, jobsWords, jobsFloats, relayState, relayStateFloats}
+use Rattle.rules.specs.RelayPlaces.{roomWords, roomFloats, lengthsOf, jobsWords, relayState, relayStateFloats}
 use Rattle.rules.proofs.Loops.{length-ones, getD-ones, each-alike}
 use Rattle.lists.proofs.Slices.{length-entries, nodesOf-entries, distancesOf-entries}
 use Rattle.buffers.proofs.Places.{put-length}
 use Rattle.encoded.proofs.Lists.{room-words, room-floats, wordRow, floatRow, length-lengths, length-at}
 use Rattle.relay_state.specs.State.{Sized}
-use Rattle.relay_state.proofs.Parts.{Sizes, sizes}
+use Rattle.relay_state.proofs.Parts.{sizes}
 use Rattle.relay_state.proofs.Reading.{joined-ones}
 use Rattle.relay_open.specs.Open.{firstJobs, JobsWritten, ListsPut, DistsPut, StateWritten}
 use Rattle.relay_open.proofs.Rooms.{rooms-long}

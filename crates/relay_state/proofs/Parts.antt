@@ -1,15 +1,14 @@
 -- The tests of the parts of a relay's state, one after another. Assumes nothing.
 use mathlib.Core.Path.{_≡_, refl, sym, ap, _∙_}
-use mathlib.Core.Bool.{Bool, true, false, not, _&&_}
+use mathlib.Core.Bool.{Bool, true, false}
 use mathlib.Core.List.{List, [], _∷_, _++_, map}
 use Prim.Native.Nat.{ℕ, zero, suc, _+_, _-_, _*_, _≤_, _<_, min}
 use native.Mathlib.Nat.{not-suc-le-zero, le-of-suc-le-suc, mul-suc, suc-mul, mul-le-mul, mul-le-mul-right}
 use native.Mathlib.Numerals.{add-one}
 use native.Mathlib.Omega.{arith}
 use borrow.Author.Tests.{eq-eqb, ne-eqb, le-leb, lt-leb}
-use lib.Dec.{eqb, leb}
-use lib.ListN.{length, take, drop, getD, length-drop}
-use lib.Seq.{take-all, drop-drop}
+use lib.ListN.{length, take, drop, getD}
+use lib.Seq.{drop-drop}
 use lib.Ieee.{Float, nan, binary32, toBits}
 use Rattle.rules.specs.Loops.{each, part}
 use Rattle.rules.specs.Distance.{zero32}
@@ -21,7 +20,7 @@ use Rattle.rules.specs.RelayPlaces.{jobIn, relayIn, pendingAt}
 use Rattle.lists.proofs.Plain.{to-end}
 use Rattle.zeros.specs.Zeros.{zeros, allBelow}
 use Rattle.zeros.proofs.Laws.{all-turn, all-not}
-use Rattle.jobs.specs.Jobs.{jobTest, pendingBy, PendingJob}
+use Rattle.jobs.specs.Jobs.{jobTest, PendingJob}
 use Rattle.relay_state.specs.State.{Sized, jobsTest, jobsOf, PendingAll, roomTest, roomAt}
 
 module _ {A : Type 0} where

@@ -1,12 +1,12 @@
 -- What a relay is read from: its lists and jobs one by one, and that its encoding has room for it. Assumes nothing.
 use mathlib.Core.Path.{_≡_, refl, sym, ap, _∙_}
 use mathlib.Core.List.{List, [], _∷_, _++_, map, append-assoc, append-nil, map-append}
-use Prim.Native.Nat.{ℕ, zero, suc, _+_, _-_, _*_, _≤_, _<_, min, zero-le, suc-le-suc}
-use native.Mathlib.Nat.{mul-one, suc-mul, zero-mul}
+use Prim.Native.Nat.{ℕ, zero, suc, _+_, _*_, _≤_, _<_, min, zero-le, suc-le-suc}
+use native.Mathlib.Nat.{suc-mul, zero-mul}
 use native.Mathlib.Omega.{arith}
 use lib.Dec.{T}
 use lib.ListN.{length, take, drop, getD, length-take}
-use lib.Seq.{getD-take, getD-drop, take-add}
+use lib.Seq.{take-add}
 use lib.Ieee.{Float, binary32, fits}
 use lib.Ieee.Bits.{ofBits-fits}
 use Rattle.rules.specs.declared.Neighbor.{Neighbor}
@@ -14,11 +14,10 @@ use Rattle.rules.specs.Loops.{each, part}
 use Rattle.rules.specs.Distance.{zero32}
 use Rattle.rules.specs.Numbers.{most}
 use Rattle.rules.specs.Lists.{entries, distancesOf}
-use Rattle.rules.specs.Relay.{Job, Relay, noJob}
+use Rattle.rules.specs.Relay.{Job, noJob}
 use Rattle.rules.specs.Places.{padded}
 use Rattle.rules.specs.RelayPlaces.{roomFloats, jobsFloats, jobIn, relayIn, relayStateFloats}
-use Rattle.rules.proofs.Loops.{length-each, part-each, length-ones, getD-ones, ones}
-use Rattle.lists.specs.All.{All}
+use Rattle.rules.proofs.Loops.{length-ones, getD-ones, ones}
 use Rattle.lists.proofs.Plain.{all-take, all-append}
 use Rattle.encoded.specs.Words.{Binary32, joined, Readable, Fitting}
 use Rattle.encoded.proofs.Jobs.{job-readable}

@@ -1,22 +1,22 @@
 -- What the tests of the parts say of a state is what row 12 says. Assumes nothing.
-use mathlib.Core.Path.{_≡_, refl, sym, ap, _∙_}
+use mathlib.Core.Path.{_≡_, sym, ap, _∙_}
 use mathlib.Core.Bool.{Bool, true, false, not, _&&_}
-use mathlib.Core.List.{List, [], _∷_, _++_, map}
-use Prim.Native.Nat.{ℕ, zero, suc, _+_, _-_, _*_, _≤_, _<_, min}
+use mathlib.Core.List.{List, _∷_, _++_, map}
+use Prim.Native.Nat.{ℕ, suc, _+_, _-_, _*_, _≤_, _<_}
 use native.Mathlib.Nat.{mul-comm}
 use native.Mathlib.Omega.{arith}
 use borrow.Author.Tests.{eqb-true, leb-true, not-true}
 use lib.Dec.{T, eqb, leb}
-use lib.ListN.{length, take, drop, getD, replicate, length-take, length-drop, take-append-drop}
-use lib.Seq.{drop-drop, drop-cons, getD-drop, getD-take, take-all, length-take-le, ext-getD}
+use lib.ListN.{length, take, drop, getD, replicate, length-drop, take-append-drop}
+use lib.Seq.{drop-drop, drop-cons, getD-drop, getD-take, length-take-le, ext-getD}
 use lib.Ieee.{Float, binary32, toBits, fits}
 use Rattle.rules.specs.declared.Neighbor.{Neighbor}
-use Rattle.rules.specs.Loops.{each, part}
+use Rattle.rules.specs.Loops.{part}
 use Rattle.rules.specs.Distance.{zero32}
 use Rattle.rules.specs.Numbers.{outside}
 use Rattle.rules.specs.Lists.{entries, nodesOf, distancesOf}
 use Rattle.rules.specs.Offers.{listFormed}
-use Rattle.rules.specs.Relay.{Job, Relay, noJob}
+use Rattle.rules.specs.Relay.{Job, noJob}
 use Rattle.rules.specs.Places.{padded, sameWords}
 use Rattle.rules.specs.RelayPlaces.{roomWords, roomFloats, lengthsOf, jobWords, jobsWords, jobsFloats, jobIn, jobFormed, pendingAt, relayIn, relayState, relayStateFloats, relayFormed}
 use Rattle.rules.proofs.Tables.{within}
@@ -24,7 +24,7 @@ use Rattle.rules.proofs.Tests.{both, same-truth}
 use Rattle.rules.proofs.Loops.{ones}
 use Rattle.lists.proofs.Plain.{all-take, length-nodes, length-distances, to-end}
 use Rattle.lists.proofs.Slices.{length-entries, nodesOf-entries, distancesOf-entries}
-use Rattle.encoded.specs.Words.{Binary32, joined}
+use Rattle.encoded.specs.Words.{Binary32}
 use Rattle.encoded.proofs.Same.{words-same}
 use Rattle.encoded.proofs.Rows.{getD-mapped, all-drop}
 use Rattle.encoded.proofs.Lists.{room-words, room-floats, wordRow, floatRow, length-lengths, length-at}

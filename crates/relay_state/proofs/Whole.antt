@@ -1,34 +1,29 @@
 -- The tests of the parts come to row 12 of a move and a close. Assumes nothing.
 use mathlib.Core.Path.{_≡_, refl, sym, ap, _∙_}
-use mathlib.Core.Bool.{Bool, true, false, not, _&&_}
+use mathlib.Core.Bool.{true, false, not, _&&_}
 use mathlib.Core.List.{List, [], _∷_, _++_, map}
-use Prim.Native.Nat.{ℕ, zero, suc, _+_, _-_, _*_, _≤_, _<_, min}
+use Prim.Native.Nat.{ℕ, suc, _+_, _-_, _*_, _<_}
 use native.Mathlib.Omega.{arith}
-use borrow.Author.Tests.{eq-eqb, eqb-true, le-leb, leb-true, not-true}
-use lib.Dec.{eqb, leb}
-use lib.ListN.{length, take, drop, getD, replicate, length-take, length-drop, take-append-drop}
+use borrow.Author.Tests.{eq-eqb, le-leb, not-true}
+use lib.ListN.{length, take, drop, getD, replicate, length-take, length-drop}
 use native.Mathlib.Nat.{mul-comm}
-use lib.Seq.{drop-at, drop-drop, getD-drop, take-all, take-at, length-take-le}
+use lib.Seq.{drop-at, drop-drop, getD-drop, take-at}
 use lib.Ieee.{Float, binary32, toBits}
 use Rattle.rules.specs.declared.Neighbor.{Neighbor}
-use Rattle.rules.specs.Loops.{each, part}
+use Rattle.rules.specs.Loops.{part}
 use Rattle.rules.specs.Distance.{zero32}
 use Rattle.rules.specs.Numbers.{outside}
-use Rattle.rules.specs.Lists.{entries, nodesOf, distancesOf}
-use Rattle.rules.specs.Offers.{listFormed, listsFormed}
+use Rattle.rules.specs.Lists.{nodesOf, distancesOf}
+use Rattle.rules.specs.Offers.{listFormed}
 use Rattle.rules.specs.Relay.{Job, Relay, noJob}
-use Rattle.rules.specs.Places.{padded, sameWords, sameFloats}
-use Rattle.rules.specs.RelayPlaces.{jobWords, jobsWords, jobsFloats, jobIn, jobFormed, jobsFormed, pendingAt, lengthsFormed, relayIn, relayState, relayStateFloats, relayFormed}
-use Rattle.rules.proofs.Tables.{within}
+use Rattle.rules.specs.Places.{padded}
+use Rattle.rules.specs.RelayPlaces.{jobWords, jobsWords, jobsFloats, jobFormed, jobsFormed, pendingAt, relayIn, relayState, relayStateFloats, relayFormed}
 use Rattle.rules.proofs.Tests.{both, together}
-use Rattle.lists.specs.All.{All}
-use Rattle.lists.proofs.Plain.{all-at, all-take, length-nodes, length-distances}
-use Rattle.lists.proofs.Slices.{length-entries, nodesOf-entries, distancesOf-entries}
+use Rattle.lists.proofs.Plain.{all-at, length-nodes, length-distances}
 use Rattle.encoded.specs.Words.{Binary32, joined, Fitting}
 use Rattle.encoded.proofs.Same.{same-words, words-same, same-floats, floats-same}
 use Rattle.encoded.proofs.Jobs.{length-jobWords, length-jobsWords, length-jobsFloats}
 use Rattle.encoded.proofs.Back.{words-at, floats-at, length-in, count-at, jobs-in, job-words-at, distances-in}
-use Rattle.encoded.proofs.Rows.{all-drop}
 use Rattle.zeros.specs.Zeros.{zeros, allBelow}
 use Rattle.zeros.proofs.Laws as all
 use Rattle.jobs.specs.Jobs.{jobTest}
@@ -36,8 +31,8 @@ use Rattle.relay_kept.proofs.Lists.{formed-lists, lists-formed}
 use Rattle.relay_kept.proofs.Tested.{formed-lengths, lengths-formed}
 use Rattle.relay_kept.proofs.Jobs.{jobs-formed}
 use Rattle.relay_state.specs.State.{Sized, jobsTest, roomTest, roomAt}
-use Rattle.relay_state.proofs.Zeroed.{zeros-are, are-zeros, floats-are, are-floats}
-use Rattle.relay_state.proofs.Parts.{Sizes, sizes, from-jobs, Inside, inside}
+use Rattle.relay_state.proofs.Zeroed.{are-zeros, are-floats}
+use Rattle.relay_state.proofs.Parts.{sizes, from-jobs, inside}
 use Rattle.relay_state.proofs.Reading.{listOf, jobOf, jobsLong, lists-long, jobs-long, list-at, job-at, short, fitting, binary}
 
 -- ---- what row 12 is of all, of each

@@ -1,22 +1,19 @@
 -- Zeros are zeros of a number, and what is a value of binary32 in lists made of such. Assumes nothing.
-use mathlib.Core.Path.{_≡_, refl, sym, ap, _∙_}
-use mathlib.Core.Bool.{Bool, true, _&&_}
-use mathlib.Core.List.{List, [], _∷_, _++_, map}
-use Prim.Native.Nat.{ℕ, zero, suc, _-_}
+use mathlib.Core.Path.{_≡_, refl}
+use mathlib.Core.Bool.{true}
+use mathlib.Core.List.{List, [], _∷_, map}
+use Prim.Native.Nat.{ℕ, zero, suc}
 use borrow.Author.Tests.{eqb-true}
 use lib.Dec.{T, eqb}
-use lib.ListN.{length, take, drop, replicate}
+use lib.ListN.{length, replicate}
 use lib.Ieee.{Float, binary32, toBits, ofBits, fits}
 use lib.Ieee.Bits.{ofBits-fits}
-use Rattle.rules.specs.declared.Neighbor.{Neighbor}
 use Rattle.rules.specs.Distance.{zero32}
-use Rattle.rules.specs.Lists.{entries, distancesOf}
 use Rattle.rules.specs.Relay.{Job}
 use Rattle.rules.specs.Places.{padded}
-use Rattle.rules.specs.RelayPlaces.{roomFloats, jobsFloats}
+use Rattle.rules.specs.RelayPlaces.{jobsFloats}
 use Rattle.rules.proofs.Tests.{both}
 use Rattle.lists.specs.All.{All}
-use Rattle.lists.proofs.Plain.{all-append}
 use Rattle.encoded.specs.Words.{Binary32}
 use Rattle.encoded.proofs.Same.{bits-same}
 use Rattle.encoded.proofs.Binary.{binary-padded, jobs-binary}

@@ -6,14 +6,13 @@ use Prim.Native.Nat.{ℕ, _+_, _*_, _≤_}
 use lib.Dec.{eqb, leb}
 use lib.ListN.{length, drop, getD}
 use lib.Ieee.{Float, binary32, toBits}
-use Rattle.rules.specs.declared.Neighbor.{Neighbor}
 use Rattle.rules.specs.Loops.{each, part}
 use Rattle.rules.specs.Distance.{zero32}
 use Rattle.rules.specs.Numbers.{outside}
 use Rattle.rules.specs.Lists.{entries}
 use Rattle.rules.specs.Calls.{relayWords, relayFloats}
 use Rattle.rules.specs.Offers.{listFormed}
-use Rattle.rules.specs.Relay.{Job, Relay}
+use Rattle.rules.specs.Relay.{Job}
 use Rattle.rules.specs.RelayPlaces.{jobIn, relayIn, pendingAt}
 use Rattle.zeros.specs.Zeros.{zeros, allBelow}
 use Rattle.jobs.specs.Jobs.{jobTest}

@@ -1,20 +1,20 @@
 -- The lists of a renewal, node by node, and how many draws it uses. Assumes nothing.
-use mathlib.Core.Path.{_≡_, refl, sym, ap, _∙_}
+use mathlib.Core.Path.{_≡_, refl, ap, _∙_}
 use mathlib.Core.Bool.{Bool, true, false, cond, not, _&&_}
 use mathlib.Core.List.{List, [], _∷_, _++_}
-use Prim.Native.Nat.{ℕ, zero, suc, _+_, _-_, _*_, _≤_, _<_}
-use native.Mathlib.Nat.{suc-mul, zero-mul}
+use Prim.Native.Nat.{ℕ, zero, suc, _+_, _*_, _≤_, _<_}
+use native.Mathlib.Nat.{suc-mul}
 use native.Mathlib.Omega.{arith}
 use borrow.Author.Tests.{ltb-true, ltb-false}
 use lib.Dec.{eqb, ltb}
-use lib.ListN.{length, take, drop, getD, replicate, length-append, length-replicate, length-drop}
+use lib.ListN.{length, drop, getD, replicate, length-append, length-replicate, length-drop}
 use Rattle.rules.specs.declared.Neighbor.{Neighbor}
 use Rattle.rules.specs.Loops.{turns, each}
 use Rattle.rules.specs.Lists.{nodeOf}
-use Rattle.rules.specs.Descent.{Renewed, renew, renewAll, isVisited, listAt, newOf, oldOf, shuffle, drawnAfter, keptNew, membersBack}
+use Rattle.rules.specs.Descent.{Renewed, renew, renewAll, isVisited, listAt, newOf, oldOf, shuffle, keptNew, membersBack}
 use Rattle.shuffles.proofs.Laws.{length-shuffle, drawn-few}
 use Rattle.renews.specs.Renews.{renewedTo}
-use Rattle.renews.proofs.All.{grown-low, grown-last, Longs, renewed-long}
+use Rattle.renews.proofs.All.{grown-low, grown-last, renewed-long}
 use Rattle.descent_kept.proofs.Lists.{Lists}
 
 -- ---- one list is split, shuffled and cut

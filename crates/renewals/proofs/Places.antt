@@ -1,10 +1,10 @@
 -- The lists of renewed contexts in their words: lengths, members, and each node once per member. Assumes nothing.
 use mathlib.Core.Path.{_≡_, refl, sym, ap, _∙_, subst}
 use mathlib.Core.Bool.{Bool}
-use mathlib.Core.List.{List, [], _∷_, append-nil}
+use mathlib.Core.List.{List, [], append-nil}
 use Prim.Native.Nat.{ℕ, _+_, _*_, _≤_, _<_}
 use native.Mathlib.Omega.{arith}
-use lib.ListN.{length, take, drop, getD, replicate, length-drop}
+use lib.ListN.{length, drop, getD, replicate, length-drop}
 use lib.Seq.{getD-take, getD-drop}
 use Rattle.rules.specs.Loops.{through}
 use Rattle.rules.specs.Descent.{Renewed, unvisit, unvisitAll, membersBack}
@@ -12,8 +12,8 @@ use Rattle.rules.specs.DescentPlaces.{memberWords, membersIn}
 use Rattle.rules.proofs.Loops.{each-alike}
 use Rattle.rules.proofs.Places.{members-front}
 use Rattle.buffers.specs.Area.{area}
-use Rattle.members.proofs.Laws.{area-in, turns-alike}
-use Rattle.passes.specs.Passes.{Below, Members}
+use Rattle.members.proofs.Laws.{turns-alike}
+use Rattle.passes.specs.Passes.{Below}
 use Rattle.backs.specs.Backs.{Lengths, backs}
 use Rattle.renews.specs.Renews.{RenewedIn}
 use Rattle.unvisits.specs.Unvisits.{newIn, unvisitEach, News}

@@ -1,16 +1,14 @@
 -- What the renewal of lists leaves, what the reversed lists count on, and what both leave. Assumes nothing.
-use mathlib.Core.Path.{_≡_, refl, sym, ap, _∙_, subst}
-use mathlib.Core.Bool.{Bool}
+use mathlib.Core.Path.{_≡_, sym, ap, _∙_, subst}
 use mathlib.Core.List.{List, [], _∷_, _++_, append-nil}
 use Prim.Native.Nat.{ℕ, _+_, _-_, _*_, _≤_, _<_}
 use native.Mathlib.Nat.{mul-le-mul, mul-assoc}
 use native.Mathlib.Omega.{arith}
 use borrow.Rule.Slice.PartMut.{midOf, putMid}
-use lib.ListN.{length, take, drop, getD, length-drop, drop-of-length-le}
+use lib.ListN.{length, take, drop, length-drop, drop-of-length-le}
 use lib.Seq.{length-take-le, take-take, take-all}
 use Rattle.rules.specs.Loops.{each, over}
-use Rattle.rules.specs.Calls.{descentWords}
-use Rattle.rules.specs.Descent.{Context, Met, Renewed, renewAll, membersBack, drawnAfter, keptBack, reversedOld, reversedNew, contextOf, renewed}
+use Rattle.rules.specs.Descent.{Context, Met, renewAll, membersBack, drawnAfter, keptBack, reversedOld, reversedNew, contextOf, renewed}
 use Rattle.rules.specs.DescentPlaces.{memberWords, contextWords, pairWords}
 use Rattle.rules.proofs.Loops.{length-ones, getD-ones}
 use Rattle.buffers.specs.Area.{area}
@@ -20,7 +18,7 @@ use Rattle.visits.specs.Marks as visits
 use Rattle.meets.specs.Meets.{marksAt}
 use Rattle.members.proofs.Laws.{area-in}
 use Rattle.members.proofs.Contexts.{noContext, Four, contexts-told}
-use Rattle.backs.specs.Backs.{Lengths, backs, PutBack, Reversed}
+use Rattle.backs.specs.Backs.{Lengths, backs, Reversed}
 use Rattle.renews.specs.Renews.{Lists, RenewedIn, Renews}
 use Rattle.unvisits.specs.Unvisits.{unvisitEach, News}
 use Rattle.descent_kept.proofs.Contexts.{Renewing, all-renewed}

@@ -1,9 +1,9 @@
 -- What renewing every context counts on, and what it leaves. Assumes nothing.
 use mathlib.Core.Path.{_≡_}
 use mathlib.Core.List.{List}
-use Prim.Native.Nat.{ℕ, _+_, _*_, _≤_}
+use Prim.Native.Nat.{ℕ, _*_, _≤_}
 use lib.ListN.{length, take, drop}
-use Rattle.rules.specs.Descent.{Met, Renewed, Iterated, renewAll, unvisitAll, renewed}
+use Rattle.rules.specs.Descent.{Met, Renewed, renewAll, unvisitAll, renewed}
 use Rattle.rules.specs.DescentPlaces.{contextWords, pairWords}
 use Rattle.buffers.specs.Area.{area}
 use Rattle.visits.specs.Marks as visits

@@ -1,7 +1,7 @@
 -- "Search": one walk, over a distance to the query that may be unfit. Assumes nothing.
 use mathlib.Core.Bool.{Bool, cond}
 use mathlib.Core.List.{List, [], _∷_, _++_}
-use Prim.Native.Nat.{ℕ, zero, suc, _+_, _-_}
+use Prim.Native.Nat.{ℕ, zero, suc, _-_}
 use lib.Dec.{eqb, ltb}
 use lib.ListN.{length, take, getD, set, replicate}
 use lib.Ieee.{Float, lt}

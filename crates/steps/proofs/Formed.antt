@@ -1,12 +1,12 @@
 -- What makes a list well formed, and that each step of an offer keeps it so. Assumes nothing.
-use mathlib.Core.Path.{_≡_, refl, sym, ap, _∙_}
+use mathlib.Core.Path.{_≡_, refl, ap}
 use mathlib.Core.Bool.{Bool, true, false, cond, not, _&&_}
 use mathlib.Core.List.{List, [], _∷_}
-use Prim.Native.Nat.{ℕ, zero, suc, _-_, _≤_, _<_}
+use Prim.Native.Nat.{ℕ, zero, suc, _-_, _<_}
 use native.Mathlib.Omega.{arith}
-use borrow.Author.Tests.{lt-ltb, ne-eqb, eqb-true, leb-true, not-true}
+use borrow.Author.Tests.{lt-ltb, ne-eqb, eqb-true, not-true}
 use lib.Dec.{T, eqb, ltb}
-use lib.ListN.{length, take, getD}
+use lib.ListN.{length, take}
 use lib.Ieee.{Float, binary32, fits, toBits}
 use Rattle.rules.specs.declared.Neighbor.{Neighbor}
 use Rattle.rules.specs.Distance.{before, fit}

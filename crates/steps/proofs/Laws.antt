@@ -1,24 +1,22 @@
 -- What the four steps of an offer come to. Assumes nothing.
 use mathlib.Core.Path.{_≡_, refl, sym, ap, _∙_}
-use mathlib.Core.Bool.{Bool, true, false, cond, not, _&&_, _||_}
-use mathlib.Core.List.{List, [], _∷_}
-use Prim.Native.Nat.{ℕ, zero, suc, _+_, _-_, _≤_, _<_}
+use mathlib.Core.Bool.{Bool, true, false, not}
+use mathlib.Core.List.{List}
+use Prim.Native.Nat.{ℕ, suc, _-_, _≤_, _<_}
 use native.Mathlib.Omega.{arith}
 use borrow.Author.Tests.{lt-ltb, le-ltb, ne-eqb, ltb-true}
-use lib.Dec.{T, eqb, ltb}
 use lib.ListN.{length, take, getD}
 use lib.Seq.{take-all}
-use lib.Ieee.{Float, binary32, fits, lt, eq, toBits}
+use lib.Ieee.{binary32, lt, toBits}
 use Rattle.rules.specs.declared.Neighbor.{Neighbor}
-use Rattle.rules.specs.Distance.{before, zero32, fit}
-use Rattle.rules.specs.Lists.{neighbor, nodeOf, insert}
+use Rattle.rules.specs.Distance.{before, zero32}
+use Rattle.rules.specs.Lists.{neighbor, insert}
 use Rattle.rules.specs.Search.{farthest}
-use Rattle.rules.specs.Offers.{entryFormed, entriesFormed, inOrder, ascending, listFormed, look, measure, pop, offer}
+use Rattle.rules.specs.Offers.{look, pop, offer}
 use Rattle.neighbor.specs.Holdable.{Holdable}
 use Rattle.neighbor.proofs.Bits.{bits-lt, bits-eq}
-use Rattle.lists.specs.All.{All}
-use Rattle.lists.specs.Ascending.{AllHoldable, NoneBefore, Ascending}
-use Rattle.lists.proofs.Laws.{length-insert, holdable-at, take-behind, holdable-insert, holdable-take, ascending-insert, ascending-take}
+use Rattle.lists.specs.Ascending.{AllHoldable, Ascending}
+use Rattle.lists.proofs.Laws.{length-insert, holdable-at, take-behind}
 
 -- ---- an offer to a list of exactly k
 

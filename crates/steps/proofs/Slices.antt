@@ -1,20 +1,17 @@
 -- A look at the last of a list in two slices, and an offer that is taken up or not. Assumes nothing.
 use mathlib.Core.Path.{_≡_, refl, sym, ap, _∙_}
-use mathlib.Core.Bool.{Bool, true, false, cond, not}
+use mathlib.Core.Bool.{true, false, not}
 use mathlib.Core.List.{List}
-use Prim.Native.Nat.{ℕ, suc, _+_, _-_, _≤_}
+use Prim.Native.Nat.{ℕ, _-_, _≤_}
 use native.Mathlib.Omega.{arith}
-use borrow.Author.Tests.{lt-ltb}
-use lib.Dec.{ltb}
-use lib.ListN.{length, take, getD}
+use lib.ListN.{length, getD}
 use lib.Ieee.{Float, lt}
 use Rattle.rules.specs.declared.Neighbor.{Neighbor}
 use Rattle.rules.specs.Distance.{zero32}
-use Rattle.rules.specs.Lists.{neighbor, entries, insert}
+use Rattle.rules.specs.Lists.{neighbor, entries}
 use Rattle.rules.specs.Search.{farthest}
-use Rattle.rules.specs.Offers.{look, measure, pop, offer}
+use Rattle.rules.specs.Offers.{look}
 use Rattle.lists.specs.Lists.{PushedCut}
-use Rattle.lists.proofs.Laws.{length-insert}
 use Rattle.lists.proofs.Slices.{length-entries, getD-entries}
 use Rattle.steps.specs.Steps.{OfferedTo}
 use Rattle.steps.proofs.Laws.{offer-taken, offer-left}

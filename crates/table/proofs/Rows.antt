@@ -8,7 +8,7 @@ use borrow.Author.Tests.{eqb-true, not-false}
 use Rattle.rules.specs.declared.Answer.{Answer}
 use Rattle.rules.specs.declared.Answer.the-variants.{Done, Refused}
 use Rattle.rules.specs.declared.Refusal.{Refusal}
-use Rattle.rules.specs.Refusals.{Row, codeOf, passed, decide, decisionOf, row1, row2, row3}
+use Rattle.rules.specs.Refusals.{Row, codeOf, decide, decisionOf, row1, row2, row3}
 use Rattle.rules.proofs.Tables.{passes, decide-append, decide-before, within}
 
 module _ (rs qs : List Row) {a : Answer} (e : decisionOf a ≡ decide rs) where

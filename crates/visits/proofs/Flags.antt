@@ -1,16 +1,15 @@
 -- Flags written as words, 32 to a word, and read back. Assumes nothing.
 use mathlib.Core.Path.{_≡_, refl, sym, ap, _∙_}
 use mathlib.Core.Bool.{Bool, true, false, cond, not, _&&_, _||_}
-use mathlib.Core.List.{List, [], _∷_, _++_}
+use mathlib.Core.List.{List, [], _∷_}
 use Prim.Native.Nat.{ℕ, zero, suc, _+_, _*_, _/_, _%_, _^_, _≤_, _<_}
 use native.Mathlib.Nat.{mod-lt, div-one, zero-div, zero-lt-suc, div-add-mod, lt-of-lt-of-le, two-pow-succ}
 use native.Mathlib.Omega.{arith}
 use borrow.Author.Tests.{eqb-true, eqb-false, ltb-true, ltb-false}
 use lib.Dec.{eqb, ltb}
-use lib.ListN.{length, take, drop, getD, set, length-append, List·getD-append, List·getD-eq-default, length-take}
+use lib.ListN.{length, take, drop, getD, set, List·getD-eq-default, length-take}
 use lib.Pow.{pow-mono}
-use lib.Seq.{getD-set-same, getD-set-other, getD-take, getD-drop, getD-at, ext-getD}
-use Rattle.rules.specs.Loops.{each}
+use lib.Seq.{getD-set-same, getD-set-other, getD-take, getD-drop}
 use Rattle.rules.specs.Relay.{bit}
 use Rattle.rules.specs.DescentPlaces.{wordOf, pairWords, bitAt}
 use Rattle.rules.proofs.Loops.{length-ones, getD-ones, ones}

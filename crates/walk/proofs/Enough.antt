@@ -6,10 +6,10 @@ use Prim.Native.Nat.{ℕ, zero, suc, _+_, _≤_, _<_}
 use native.Mathlib.Omega.{arith}
 use borrow.Author.Tests.{ltb-true, ltb-false}
 use lib.Dec.{ltb}
-use lib.ListN.{length, take, getD, replicate, length-replicate, length-map, length-take}
+use lib.ListN.{length, take, getD, replicate, length-replicate, length-take}
 use Rattle.rules.specs.declared.Distance.{Distance}
 use Rattle.rules.specs.declared.Neighbor.{Neighbor}
-use Rattle.rules.specs.Lists.{nodeOf, nodesOf}
+use Rattle.rules.specs.Lists.{nodesOf}
 use Rattle.rules.specs.Rows.{graphRow}
 use Rattle.rules.specs.Search.{Walk, on, Found, Taken, andThen, visits, rootsFound, started, joins, tooFar, takeThese, rowEnded, expand, walk, searchOf}
 use Rattle.lists.proofs.Plain.{length-nodes}

@@ -1,15 +1,15 @@
 -- The roots are worked out one by one; one beyond the k-th found so far is passed over, as it would stand behind the first k. Assumes nothing.
 use mathlib.Core.Path.{_≡_, refl, sym, ap, _∙_, subst}
 use mathlib.Core.Bool.{Bool, true, false, cond, true≢false}
-use mathlib.Core.List.{List, [], _∷_}
+use mathlib.Core.List.{List, []}
 use Prim.Native.Nat.{ℕ, suc, _+_, _-_, _≤_, _<_}
 use native.Mathlib.Numerals.{add-one}
 use native.Mathlib.Omega.{arith}
-use borrow.Author.Tests.{le-ltb, ltb-true, ltb-false}
+use borrow.Author.Tests.{ltb-false}
 use lib.Dec.{ltb}
 use lib.ListN.{length, take, drop, getD, drop-of-length-le}
 use lib.Seq.{drop-cons, getD-take, getD-drop}
-use lib.Ieee.{Float, nan, binary32, toBits, ofBits, lt}
+use lib.Ieee.{Float, nan, lt}
 use Rattle.rules.specs.declared.Distance.{Distance}
 use Rattle.rules.specs.declared.Distance.the-variants.{Fit, Unfit}
 use Rattle.rules.specs.declared.NodeId.{NodeId}
@@ -19,7 +19,7 @@ use Rattle.rules.specs.Lists.{neighbor, entries, insert}
 use Rattle.rules.specs.Rows.{emptyDistance}
 use Rattle.rules.specs.Search.{Going, on, unfitAt, andThen, worksOut, rootsFound}
 use Rattle.neighbor.specs.Holdable.{Holdable}
-use Rattle.neighbor.proofs.Bits.{bits-lt, holdable-empty, within-empty}
+use Rattle.neighbor.proofs.Bits.{within-empty}
 use Rattle.neighbor.proofs.Order.{asymmetric}
 use Rattle.lists.specs.Ascending.{AllHoldable, Ascending}
 use Rattle.lists.proofs.Laws.{length-insert, take-insert, take-behind, holdable-at, holdable-insert, ascending-insert}

@@ -1,10 +1,10 @@
 -- The first roots found enter the best set and the queue. Assumes nothing.
 use mathlib.Core.Path.{_≡_, refl, sym, ap, _∙_}
 use mathlib.Core.List.{List, [], _∷_, _++_}
-use Prim.Native.Nat.{ℕ, _+_, _-_, _≤_, _<_}
+use Prim.Native.Nat.{ℕ, _+_, _≤_, _<_}
 use native.Mathlib.Numerals.{add-one}
 use native.Mathlib.Omega.{arith}
-use lib.ListN.{length, take, drop, getD, set, length-set}
+use lib.ListN.{take, drop, getD, set, length-set}
 use lib.Seq.{take-suc, getD-take, getD-drop, getD-set-same, take-set-le}
 use lib.Ieee.{Float, nan}
 use Rattle.rules.specs.declared.Neighbor.{Neighbor}

@@ -1,6 +1,5 @@
 -- `exact::consider` meets its contract: what is beyond the farthest changes nothing. Assumes nothing.
 use mathlib.Core.Path.{sym, ap, _∙_}
-use mathlib.Core.Bool.{true}
 use lib.Ieee.{Float, lt}
 use Rattle.exact.proofs.Laws.{offered-farther}
 use borrow.Author.Needs.{needs}

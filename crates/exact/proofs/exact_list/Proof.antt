@@ -1,6 +1,4 @@
 -- `exact::exact_list` meets its contract, from what its two parts ensure. Assumes nothing.
-use Prim.Native.Nat.{_*_, _≤_}
-use native.Mathlib.Omega.{arith}
 use Rattle.exact.proofs.Laws.{exact, holds-distances}
 use borrow.Author.Needs.{needs}
 use Rattle.exact.proofs.exact_list.Statement.{statement}

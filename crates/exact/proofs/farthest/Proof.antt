@@ -1,6 +1,4 @@
 -- `exact::farthest` meets its contract. Assumes nothing.
-use mathlib.Core.Path.{sym}
-use lib.Ieee.{ofBits}
 use borrow.Author.Tests.{lt-ltb, le-ltb}
 use borrow.Author.Needs.{needs}
 use Rattle.exact.specs.Exact.{farthest}

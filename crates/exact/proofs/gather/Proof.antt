@@ -1,6 +1,6 @@
 -- `exact::gather` meets its contract. The loop's invariant: the least of the nodes below `i` are held, and the bound is the farthest of them. Assumes nothing.
 use mathlib.Core.Path.{_≡_, refl}
-use Prim.Native.Nat.{ℕ, _*_, _+_, _≤_, _<_, _-_}
+use Prim.Native.Nat.{_*_, _+_, _≤_, _<_, _-_}
 use native.Mathlib.Omega.{arith}
 use lib.ListN.{length}
 use Rattle.exact.specs.Exact.{apartIn, farthest, Gathered}

@@ -1,6 +1,6 @@
 -- `exact::put_eight` meets its contract: the first t are written. Assumes nothing.
 use mathlib.Core.Path.{_≡_}
-use Prim.Native.Nat.{ℕ, _≤_, _-_}
+use Prim.Native.Nat.{_≤_, _-_}
 use native.Mathlib.Omega.{arith}
 use Rattle.exact.specs.Exact.{PutEight}
 use Rattle.exact.proofs.Eights.{put-none, put-more}

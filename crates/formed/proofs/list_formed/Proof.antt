@@ -1,6 +1,5 @@
 -- `formed::list_formed` meets its contract: both tests hold, or the first does not. Assumes nothing.
 use mathlib.Core.Path.{sym, _∙_}
-use Rattle.rules.specs.Offers.{listFormed}
 use Rattle.formed.proofs.Laws.{list-by-entries, list-not}
 use borrow.Author.Needs.{needs}
 use Rattle.formed.proofs.list_formed.Statement.{statement}

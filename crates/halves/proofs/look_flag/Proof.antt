@@ -1,7 +1,5 @@
 -- `halves::look_flag` meets its contract. Assumes nothing.
 use mathlib.Core.Path.{sym, _∙_}
-use mathlib.Core.Bool.{not}
-use Rattle.rules.specs.Relay.{bit}
 use borrow.Author.Needs.{needs}
 use Rattle.halves.proofs.look_flag.Statement.{statement}
 use Rattle.halves.proofs.look_flag.Tie as tie

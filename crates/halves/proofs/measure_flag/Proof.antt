@@ -1,5 +1,4 @@
 -- `halves::measure_flag` meets its contract. Assumes nothing.
-use mathlib.Core.Path.{refl}
 use borrow.Author.Tests.{eq-eqb, ne-eqb, lt-ltb, le-ltb}
 use Rattle.halves.proofs.measure_flag.Statement.{statement}
 use Rattle.halves.proofs.measure_flag.Tie as tie

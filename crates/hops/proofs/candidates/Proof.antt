@@ -1,5 +1,4 @@
 -- `hops::candidates` meets its contract, from what its three parts ensure. Assumes nothing.
-use Prim.Native.Nat.{_-_}
 use native.Mathlib.Omega.{arith}
 use Rattle.hops.proofs.Laws.{took-flagged, both, below-both, candidates-found, flagged-none}
 use borrow.Author.Needs.{needs}

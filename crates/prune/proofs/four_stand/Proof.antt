@@ -1,6 +1,5 @@
 -- `prune::four_stand` meets its contract: four entries, each asked by its distance. Assumes nothing.
 use mathlib.Core.Path.{refl, sym, _∙_}
-use Prim.Native.Nat.{ℕ, _<_}
 use Rattle.prune.proofs.Laws.{stood, below-entry, below-is, four-yes, four-last}
 use borrow.Author.Needs.{needs}
 use Rattle.prune.proofs.four_stand.Statement.{statement}

@@ -1,6 +1,6 @@
 -- `pruned::prune_node` meets its contract: each step by its own. Assumes nothing.
 use mathlib.Core.Path.{sym, _∙_, subst}
-use Prim.Native.Nat.{ℕ, _-_, _<_}
+use Prim.Native.Nat.{ℕ, _<_}
 use native.Mathlib.Omega.{arith}
 use Rattle.lists.specs.All.{All}
 use Rattle.hops.specs.Hops.{Linked}

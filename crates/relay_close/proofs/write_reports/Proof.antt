@@ -1,5 +1,4 @@
 -- `relay_close::write_reports` meets its contract: the reports of the jobs before the i-th are written. Assumes nothing.
-use mathlib.Core.Path.{_≡_}
 use Prim.Native.Nat.{_-_, _*_, _≤_}
 use native.Mathlib.Omega.{arith}
 use lib.ListN.{length, length-set}

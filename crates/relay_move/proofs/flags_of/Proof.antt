@@ -3,7 +3,6 @@ use mathlib.Core.Path.{_≡_}
 use Prim.Native.Nat.{_+_, _-_, _*_}
 use native.Mathlib.Omega.{arith}
 use Rattle.relay_move.proofs.Parts.{top, lent-roomed, lent-flags}
-use borrow.Author.Needs.{needs}
 use Rattle.relay_move.proofs.flags_of.Statement.{statement}
 use Rattle.relay_move.proofs.flags_of.Tie as tie
 

@@ -1,5 +1,5 @@
 -- `relay_move::list_step` meets its contract: the list's part is lent, and comes back. Assumes nothing.
-use mathlib.Core.Path.{_≡_, sym}
+use mathlib.Core.Path.{_≡_}
 use Prim.Native.Nat.{_+_, _-_, _*_}
 use native.Mathlib.Omega.{arith}
 use Rattle.relay_move.proofs.Parts.{top, lent-roomed, lent-long, list-stepped}

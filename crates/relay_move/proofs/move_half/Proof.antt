@@ -1,8 +1,7 @@
 -- `relay_move::move_half` meets its contract: the look and the measure, the list, and what the job keeps. Assumes nothing.
 use mathlib.Core.Path.{_≡_}
-use Prim.Native.Nat.{_+_, _-_, _*_}
+use Prim.Native.Nat.{_+_, _-_}
 use native.Mathlib.Omega.{arith}
-use Rattle.relay_state.proofs.Parts.{sizes}
 use Rattle.relay_move.specs.Moves.{jobPlace}
 use Rattle.relay_move.proofs.Parts.{keep-ready, half-moved}
 use borrow.Author.Needs.{needs}

@@ -2,7 +2,6 @@
 use native.Mathlib.Omega.{arith}
 use lib.ListN.{length}
 use Rattle.relay_move.proofs.Table.{Lies, lies, step-absent, step-word}
-use borrow.Author.Needs.{needs}
 use Rattle.relay_move.proofs.no_step.Statement.{statement}
 use Rattle.relay_move.proofs.no_step.Tie as tie
 

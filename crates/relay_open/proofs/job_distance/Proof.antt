@@ -1,5 +1,4 @@
 -- `relay_open::job_distance` meets its contract. Assumes nothing.
-use mathlib.Core.Path.{_∙_}
 use borrow.Author.Tests.{eq-eqb, ne-eqb}
 use Rattle.relay_open.proofs.Jobs.{lanes-there}
 use Rattle.relay_open.proofs.job_distance.Statement.{statement}

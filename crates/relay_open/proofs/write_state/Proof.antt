@@ -1,5 +1,5 @@
 -- `relay_open::write_state` meets its contract: the lists, their distances, and the jobs. Assumes nothing.
-use mathlib.Core.Path.{_≡_, refl}
+use mathlib.Core.Path.{refl}
 use native.Mathlib.Omega.{arith}
 use denote.Ref.{now}
 use lib.ListN.{length-take, length-drop}

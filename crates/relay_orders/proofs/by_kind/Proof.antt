@@ -1,6 +1,6 @@
 -- `relay_orders::by_kind` is safe: each part is as long as it says. Assumes nothing.
 use native.Mathlib.Omega.{arith}
-use lib.ListN.{length, length-take}
+use lib.ListN.{length-take}
 use borrow.Author.Needs.{needs}
 use Rattle.relay_orders.proofs.by_kind.Statement.{statement}
 use Rattle.relay_orders.proofs.by_kind.Tie as tie

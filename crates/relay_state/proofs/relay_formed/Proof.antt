@@ -1,17 +1,16 @@
 -- `relay_state::relay_formed` meets its contract: the jobs, and then the room of every list. Assumes nothing.
-use mathlib.Core.Path.{_≡_, sym, ap, _∙_}
-use Prim.Native.Nat.{ℕ, _+_, _*_, _<_}
+use mathlib.Core.Path.{sym, ap, _∙_}
+use Prim.Native.Nat.{ℕ, _+_, _*_}
 use native.Mathlib.Omega.{arith}
 use borrow.Author.Tests.{not-true, not-false}
 use denote.Ref.{now}
 use lib.Dec.{T}
-use lib.ListN.{length, getD, length-take, length-drop}
+use lib.ListN.{getD, length-take, length-drop}
 use lib.Ieee.{Float, nan, binary32, fits}
 use Rattle.lists.proofs.Plain.{all-of}
 use Rattle.encoded.specs.Words.{Binary32}
 use Rattle.relay_state.proofs.Parts.{sizes}
 use Rattle.relay_state.proofs.Tested.{by-jobs, few-jobs, by-rooms}
-use borrow.Author.Needs.{needs}
 use Rattle.relay_state.proofs.relay_formed.Statement.{statement}
 use Rattle.relay_state.proofs.relay_formed.Tie as tie
 

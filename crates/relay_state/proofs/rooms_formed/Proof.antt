@@ -10,7 +10,7 @@ use borrow.Author.Needs.{needs}
 use Rattle.zeros.specs.Zeros.{allBelow}
 use Rattle.zeros.proofs.Laws.{all-none}
 use Rattle.relay_state.specs.State.{roomAt}
-use Rattle.relay_state.proofs.Parts.{Sizes, sizes, Inside, inside, room-not, room-turn, room-end}
+use Rattle.relay_state.proofs.Parts.{sizes, Inside, inside, room-not, room-turn, room-end}
 use Rattle.relay_state.proofs.rooms_formed.Statement.{statement}
 use Rattle.relay_state.proofs.rooms_formed.Tie as tie
 

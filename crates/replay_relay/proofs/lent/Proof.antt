@@ -1,6 +1,6 @@
 -- `replay_relay::lent` is safe: each part is as long as it says. Assumes nothing.
 use native.Mathlib.Omega.{arith}
-use lib.ListN.{length, length-take}
+use lib.ListN.{length-take}
 use borrow.Author.Needs.{needs}
 use Rattle.replay_relay.proofs.lent.Statement.{statement}
 use Rattle.replay_relay.proofs.lent.Tie as tie

@@ -1,6 +1,6 @@
 -- `replay_relay::with_jobs` is safe: each part is as long as it says. Assumes nothing.
 use native.Mathlib.Omega.{arith}
-use lib.ListN.{length, length-take}
+use lib.ListN.{length-take}
 use borrow.Author.Needs.{needs}
 use Rattle.replay_relay.proofs.with_jobs.Statement.{statement}
 use Rattle.replay_relay.proofs.with_jobs.Tie as tie

@@ -1,5 +1,4 @@
 -- `search::work` meets its contract. Assumes nothing.
-use Prim.Native.Nat.{_-_}
 use native.Mathlib.Omega.{arith}
 use Rattle.expand.proofs.Areas.{room-kept}
 use Rattle.search.proofs.Outcomes.{ready-room, best-numbers, worked-unfit, worked-found}

@@ -1,5 +1,4 @@
 -- `walk::bound` meets its contract. Assumes nothing.
-use lib.Ieee.{ofBits}
 use borrow.Author.Tests.{lt-ltb, le-ltb}
 use borrow.Author.Needs.{needs}
 use Rattle.walk.specs.Walks.{bound}

@@ -1,6 +1,5 @@
 -- `walk::start` meets its contract. Assumes nothing.
 use mathlib.Core.Path.{_∙_}
-use Prim.Native.Nat.{_-_}
 use native.Mathlib.Omega.{arith}
 use Rattle.expand.proofs.Areas.{room-kept}
 use Rattle.walk.proofs.Marks.{roots-fit}

@@ -1,6 +1,5 @@
 -- `walk::walk` meets its contract: the start, and what is left. Assumes nothing.
 use mathlib.Core.Path.{_∙_}
-use Prim.Native.Nat.{_-_}
 use native.Mathlib.Omega.{arith}
 use Rattle.expand.proofs.Areas.{room-kept}
 use Rattle.walk.proofs.Walking.{started-count, walked-unfit, walked}

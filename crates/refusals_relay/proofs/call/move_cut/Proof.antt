@@ -1,6 +1,6 @@
 -- `refusals_relay::call::move_cut` is safe: each part is as long as it says. Assumes nothing.
 use native.Mathlib.Omega.{arith}
-use lib.ListN.{length, length-take}
+use lib.ListN.{length-take}
 use borrow.Author.Needs.{needs}
 use Rattle.refusals_relay.proofs.call.move_cut.Statement.{statement}
 use Rattle.refusals_relay.proofs.call.move_cut.Tie as tie
