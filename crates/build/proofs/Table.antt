@@ -16,7 +16,7 @@ use Rattle.rules.specs.Distance.{nodesApart}
 use Rattle.rules.specs.Refusals.{Row, code, passed, refused, decide, decisionOf, holds, notExactly, lessThan, row1, row2, row3, row4, row5, row6, row10}
 use Rattle.rules.specs.Calls.{buildScratch, buildRows}
 use Rattle.rules.specs.BuildCall.{BuildLent, buildTable}
-use Rattle.rules.proofs.Tables.{passes, held, left, none-of, within}
+use Rattle.rules.proofs.Tables.{all-fail, held, left, none-hold, within}
 use Rattle.rules.proofs.Tests.{or-false}
 use Rattle.table.proofs.Rows.{by-answer, past-answer, gameRows}
 use Rattle.build.specs.Build.{Ready}
@@ -137,15 +137,13 @@ pub record Sizes (k w hops : ℕ) : Type 0 where
 
 pub sizes-in : (k w hops : ℕ) → anyOf holds (ranges k w hops) ≡ false → Sizes k w hops
 sizes-in k w hops h =
-    let a = none-of _ _ h in
-    let b = none-of _ _ (a .1) in
-    let c = none-of _ _ (b .1) in
+    let ranges = none-hold _ h in
     record {
-      some-k = within 1 64 k (a .0) .from;
-      few-k = within 1 64 k (a .0) .to;
-      some-slots = within 1 64 w (b .0) .from;
-      few-slots = within 1 64 w (b .0) .to;
-      few-hops = within 1 256 hops (c .0) .to;
+      some-k = within 1 64 k (ranges .0) .from;
+      few-k = within 1 64 k (ranges .0) .to;
+      some-slots = within 1 64 w (ranges .1 .0) .from;
+      few-slots = within 1 64 w (ranges .1 .0) .to;
+      few-hops = within 1 256 hops (ranges .1 .1 .0) .to;
     }
 
 -- ---- no row holds
@@ -153,26 +151,19 @@ sizes-in k w hops h =
 pub ready : (l : BuildLent) → decide (buildTable l) ≡ passed → Ready l
 unfolding buildTable buildRows row1 row2 row3 row4 row5 row6
 ready l h =
-    let p1 = passes _ _ h in
-    let p2 = passes _ _ (p1 .1) in
-    let p3 = passes _ _ (p2 .1) in
-    let p4 = passes _ _ (p3 .1) in
-    let p5 = passes _ _ (p4 .1) in
-    let p6 = passes _ _ (p5 .1) in
-    let s = sizes-in _ _ _ (p4 .0) in
-    let b1 = none-of _ _ (p6 .0) in
-    let b2 = none-of _ _ (b1 .1) in
-    let b3 = none-of _ _ (b2 .1) in
+    let F = all-fail _ h in
+    let s = sizes-in _ _ _ (F .1 .1 .1 .0) in
+    let lengths = none-hold _ (F .1 .1 .1 .1 .1 .0) in
     record {
-      lanes-long = eqb-true _ _ (not-false _ (p3 .0));
-      some-nodes = within 2 4096 _ (p2 .0) .from;
-      few-nodes = within 2 4096 _ (p2 .0) .to;
+      lanes-long = eqb-true _ _ (not-false _ (F .1 .1 .0));
+      some-nodes = within 2 4096 _ (F .1 .0) .from;
+      few-nodes = within 2 4096 _ (F .1 .0) .to;
       some-k = s .some-k;
       few-k = s .few-k;
       some-slots = s .some-slots;
       few-slots = s .few-slots;
       few-hops = s .few-hops;
-      graph-long = eqb-true _ _ (not-false _ (b1 .0));
-      words-room = ltb-false _ _ (b2 .0);
-      floats-room = ltb-false _ _ (b3 .0);
+      graph-long = eqb-true _ _ (not-false _ (lengths .0));
+      words-room = ltb-false _ _ (lengths .1 .0);
+      floats-room = ltb-false _ _ (lengths .1 .1 .0);
     }

@@ -15,7 +15,7 @@ use Rattle.rules.specs.Loops.{anyOf}
 use Rattle.rules.specs.Numbers.{outside}
 use Rattle.rules.specs.Refusals.{Row, code, passed, refused, decide, decisionOf, holds, row1, row2, row3, row4, row6, row10}
 use Rattle.rules.specs.Calls.{scratch, descentWords, taughtScratch, descentBuffers, descentRows}
-use Rattle.rules.proofs.Tables.{passes, held, left, none-of, within}
+use Rattle.rules.proofs.Tables.{all-fail, held, left, none-hold, within}
 use Rattle.rules.proofs.Tests.{or-false}
 use Rattle.table.proofs.Rows.{by-answer, past-answer, gameRows}
 
@@ -107,9 +107,8 @@ pub record Sizes (k s : ℕ) : Type 0 where
 
 pub sizes-in : (k s : ℕ) → anyOf holds (ranges k s) ≡ false → Sizes k s
 sizes-in k s h =
-    let a = none-of _ _ h in
-    let b = none-of _ _ (a .1) in
-    record { some-k = within 1 64 k (a .0) .from; few-k = within 1 64 k (a .0) .to; some-s = within 1 k s (b .0) .from; few-s = within 1 k s (b .0) .to }
+    let ranges = none-hold _ h in
+    record { some-k = within 1 64 k (ranges .0) .from; few-k = within 1 64 k (ranges .0) .to; some-s = within 1 k s (ranges .1 .0) .from; few-s = within 1 k s (ranges .1 .0) .to }
 
 -- ---- no row holds
 
@@ -127,24 +126,17 @@ module _ {dimension n lanes k s us fs words floats : ℕ} (apart : ℕ → ℕ �
   pub ready : decide (rows dimension n lanes k s us fs words floats apart) ≡ passed → Ready dimension n lanes k s us fs words floats
   unfolding descentRows row1 row2 row3 row4 row6
   ready h =
-      let p1 = passes _ _ h in
-      let p2 = passes _ _ (p1 .1) in
-      let p3 = passes _ _ (p2 .1) in
-      let p4 = passes _ _ (p3 .1) in
-      let p6 = passes _ _ (p4 .1) in
-      let b1 = none-of _ _ (p6 .0) in
-      let b2 = none-of _ _ (b1 .1) in
-      let b3 = none-of _ _ (b2 .1) in
-      let b4 = none-of _ _ (b3 .1) in
+      let F = all-fail _ h in
+      let lengths = none-hold _ (F .1 .1 .1 .1 .0) in
       record {
-        lanes-long = eqb-true _ _ (not-false _ (p3 .0));
-        some-nodes = within 2 1024 _ (p2 .0) .from;
-        few-nodes = within 2 1024 _ (p2 .0) .to;
-        sizes = sizes-in _ _ (p4 .0);
-        state-words = eqb-true _ _ (not-false _ (b1 .0));
-        state-floats = eqb-true _ _ (not-false _ (b2 .0));
-        words-room = ltb-false _ _ (b3 .0);
-        floats-room = ltb-false _ _ (b4 .0);
+        lanes-long = eqb-true _ _ (not-false _ (F .1 .1 .0));
+        some-nodes = within 2 1024 _ (F .1 .0) .from;
+        few-nodes = within 2 1024 _ (F .1 .0) .to;
+        sizes = sizes-in _ _ (F .1 .1 .1 .0);
+        state-words = eqb-true _ _ (not-false _ (lengths .0));
+        state-floats = eqb-true _ _ (not-false _ (lengths .1 .0));
+        words-room = ltb-false _ _ (lengths .1 .1 .0);
+        floats-room = ltb-false _ _ (lengths .1 .1 .1 .0);
       }
 
 -- how many draws there can be to ask for

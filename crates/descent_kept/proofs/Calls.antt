@@ -13,12 +13,10 @@ use Rattle.rules.specs.Calls.{descentWords, descentRows, beginRows, iterateRows
 use Rattle.rules.specs.Descent.{Descent, begun, iterated}
 use Rattle.rules.specs.DescentPlaces.{descentIn, descentFormed}
 use Rattle.rules.specs.DescentCall.{DescentLent, descentWritten, beginTable, beginObeys, beginRule, iterateTable, iterateEnds, iterateObeys, iterateRule}
-use Rattle.rules.proofs.Tables.{within}
+use Rattle.rules.proofs.Tables.{within, all-fail, none-hold, exactly, Fail}
 use Rattle.neighbor.proofs.Bits.{holdable-between}
 use Rattle.metrics.proofs.Fitness.{between-fit}
-use Rattle.lists.specs.All.{All}
 use Rattle.encoded.specs.Words.{Binary32}
-use Rattle.relay_kept.proofs.Rows.{Fails, all-fail, none-hold, exactly}
 use Rattle.descent_kept.specs.Formed.{Formed}
 use Rattle.descent_kept.proofs.Tested.{formed-encoded, tested}
 use Rattle.descent_kept.proofs.Kept.{begun-formed, iterated-formed}
@@ -60,7 +58,7 @@ module _ (l : DescentLent) where
   -- ---- an iteration
 
   module _ (B : Binary32 (l .state-f)) (h : decide (iterateTable l) ≡ passed) where
-    rows : All Fails (iterateTable l)
+    rows : Fail (iterateTable l)
     rows = all-fail (iterateTable l) h
 
     pub iterate-sizes : Sizes (l .n) (l .k) (l .s)

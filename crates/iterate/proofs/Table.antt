@@ -14,7 +14,7 @@ use Rattle.rules.specs.Refusals.{Row, code, passed, refused, decide, decisionOf
 use Rattle.rules.specs.Calls.{scratch, descentRows, iterateRows}
 use Rattle.rules.specs.DescentPlaces.{descentFormed}
 use Rattle.rules.specs.DescentCall.{DescentLent, iterateTable}
-use Rattle.rules.proofs.Tables.{passes, held, left}
+use Rattle.rules.proofs.Tables.{all-fail, passes, held, left}
 use Rattle.table.proofs.Rows.{by-answer, past-answer}
 use Rattle.descent.proofs.Table.{rows, Ready, ready}
 use Rattle.descent.proofs.Outcomes.{rowsOf}
@@ -86,6 +86,5 @@ module _ (l : DescentLent) where
   unfolding iterateTable iterateRows descentRows row11 row12
   iterate-ready h =
       let b = both-pass (rowsOf l) laterOf h in
-      let p = passes _ _ (b .1) in
-      let q = passes _ _ (p .1) in
-      record { ready = ready (nodesApart (l .lanes) (l .dimension)) (b .0); draws = ltb-false _ _ (p .0); formed = not-false _ (q .0) }
+      let F = all-fail laterOf (b .1) in
+      record { ready = ready (nodesApart (l .lanes) (l .dimension)) (b .0); draws = ltb-false _ _ (F .0); formed = not-false _ (F .1 .0) }

@@ -11,7 +11,7 @@ use Rattle.rules.specs.Distance.{unfit, nodesApart}
 use Rattle.rules.specs.Refusals.{passed, decide, notExactly, lessThan, badJob, firstBadJob, unfitJob, firstUnfitJob, row1, row2, row3, row4, row6, row9, row10ofJobs, row12}
 use Rattle.rules.specs.Calls.{taughtScratch, relayWords, relayFloats, odd, openRows}
 use Rattle.rules.specs.RelayCall.{OpenLent, openTable, openObeys, openRule}
-use Rattle.relay_kept.proofs.Rows.{all-pass, hold-none, is-exactly, inside}
+use Rattle.rules.proofs.Tables.{all-pass, hold-none, is-exactly, inside}
 use Rattle.orders.specs.Demand3.{Asked, pairs, u, v}
 use Rattle.orders.proofs.Runs.{none-first}
 use Rattle.orders.proofs.Called.{Opens}

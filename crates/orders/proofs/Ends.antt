@@ -13,13 +13,12 @@ use Rattle.rules.specs.Distance.{zero32, between}
 use Rattle.rules.specs.Lists.{neighbor, insertAll, least}
 use Rattle.rules.specs.Descent.{listAt}
 use Rattle.rules.specs.Relay.{Stage, fresh, looked, pushed, measured, popped, isPopped, Job, Relay, isFinished, equalNodes, forU, forV, jobOf, opened}
-use Rattle.rules.specs.RelayPlaces.{pendingAt}
 use Rattle.rules.specs.RelayCall.{OpenLent, openedOn}
 use Rattle.rules.proofs.Tests.{both}
 use Rattle.lists.specs.All.{All}
 use Rattle.lists.proofs.Laws.{insertAll-ascending}
 use Rattle.relay_kept.specs.Formed.{Formed}
-use Rattle.relay_kept.proofs.Jobs.{pending-popped}
+use Rattle.relay_kept.proofs.Jobs.{pending-finished}
 use Rattle.orders.specs.Steps.{waits, waiting, leftFirst, leftSecond, left}
 use Rattle.orders.specs.Demand3.{u, v, apart, held, offersOf, offers, offered, pairs}
 use Rattle.orders.proofs.Kept.{goalOf}
@@ -88,20 +87,10 @@ left-none w (j ∷ js) D =
     let b = both (isPopped (j .first)) (isPopped (j .second)) (D .0) in
     rw (no-wait (eqb (j .u) w) (equalNodes j) (forU j) (j .first) (b .0), no-wait (eqb (j .v) w) (equalNodes j) (forV j) (j .second) (b .1)) (left-none w js (D .1))
 
-pending-none : (w : ℕ) (js : List Job) → All Done js → pendingAt w js ≡ 0
-unfolding pendingAt
-pending-none w [] D = refl
-pending-none w (j ∷ js) D =
-    let b = both (isPopped (j .first)) (isPopped (j .second)) (D .0) in
-    let p = pending-popped (eqb (j .u) w) (j .first) (b .0) in
-    let q = pending-popped (eqb (j .v) w) (j .second) (b .1) in
-    let r = pending-none w js (D .1) in
-    omega arith
-
 module _ {n k : ℕ} (r : Relay) (F : Formed n k r) (D : All (λ (j : Job). isFinished j ≡ true) (r .jobs)) where
   -- each list is back at k entries
   pub end-long : (w : ℕ) → w < n → length (listAt (r .lists) w) ≡ k
-  end-long w wn = let a = F .lengths w wn in let b = pending-none w (r .jobs) D in omega arith
+  end-long w wn = let a = F .lengths w wn in let b = pending-finished w (r .jobs) D in omega arith
 
   -- and is what it aimed at
   pub end-list : (w : ℕ) → w < n → listAt (r .lists) w ≡ goalOf k r w

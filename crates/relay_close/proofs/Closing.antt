@@ -1,12 +1,11 @@
 -- What a close writes: the lists, k entries each, and the reports. Assumes nothing.
-use mathlib.Core.Path.{_≡_, refl, sym, ap, _∙_}
+use mathlib.Core.Path.{_≡_, sym, ap, _∙_}
 use mathlib.Core.Bool.{true, false}
-use mathlib.Core.List.{List, [], _∷_, append-nil}
+use mathlib.Core.List.{List, [], append-nil}
 use Prim.Native.Nat.{ℕ, suc, _+_, _-_, _*_, _≤_, _<_}
 use native.Mathlib.Nat.{suc-mul, mul-le-mul, mul-le-mul-right}
 use native.Mathlib.Omega.{arith}
 use borrow.Rule.Slice.PartMut.{putMid}
-use lib.Dec.{eqb}
 use lib.ListN.{length, take, drop, getD, set, replicate, length-drop}
 use lib.Seq.{take-at, length-take-le}
 use lib.Ieee.{Float}
@@ -14,11 +13,9 @@ use Rattle.rules.specs.declared.Neighbor.{Neighbor}
 use Rattle.rules.specs.Loops.{part, over}
 use Rattle.rules.specs.Distance.{zero32}
 use Rattle.rules.specs.Lists.{nodesOf, distancesOf}
-use Rattle.rules.specs.Relay.{Job, Relay, noJob, isPopped, isFinished, reportsOf}
+use Rattle.rules.specs.Relay.{Job, Relay, noJob, isFinished, reportsOf}
 use Rattle.rules.specs.Places.{padded, listWords, listFloats}
-use Rattle.rules.specs.RelayPlaces.{pendingAt, relayIn}
-use Rattle.rules.proofs.Tests.{both}
-use Rattle.lists.specs.All.{All}
+use Rattle.rules.specs.RelayPlaces.{relayIn}
 use Rattle.lists.proofs.Plain.{all-of, length-nodes, length-distances}
 use Rattle.buffers.proofs.Laws.{Written, written-more}
 use Rattle.encoded.specs.Words.{Rows}
@@ -27,7 +24,7 @@ use Rattle.relay_state.specs.State.{Sized}
 use Rattle.relay_state.proofs.Parts.{sizes, inside}
 use Rattle.relay_state.proofs.Reading.{lists-long, list-at}
 use Rattle.relay_state.proofs.Whole.{Facts, facts, words-are, floats-as}
-use Rattle.relay_kept.proofs.Jobs.{pending-popped}
+use Rattle.relay_kept.proofs.Jobs.{pending-finished}
 use Rattle.relay_move.specs.Moves.{jobPlace}
 use Rattle.relay_move.proofs.Half.{taken-is}
 use Rattle.relay_move.proofs.Table.{jobs-are, few-jobs}
@@ -38,18 +35,6 @@ use Rattle.relay_close.proofs.Blocks.{Blocks, blocks-turn, blocks-end, 
 part-long : {A : Type 0} (k w : ℕ) (xs : List A) → w * k + k ≤ length xs → length (part k w xs) ≡ k
 unfolding part
 part-long k w xs h = length-take-le k (drop (w * k) xs) (simp length-drop (omega arith))
-
--- ---- nothing is pending where every job is finished
-
-pending-finished : (w : ℕ) (js : List Job) → All (λ (j : Job). isFinished j ≡ true) js → pendingAt w js ≡ 0
-unfolding pendingAt
-pending-finished w [] J = refl
-pending-finished w (j ∷ js) J =
-    let p = both (isPopped (j .first)) (isPopped (j .second)) (J .0) in
-    let a = pending-popped (eqb (j .u) w) (j .first) (p .0) in
-    let b = pending-popped (eqb (j .v) w) (j .second) (p .1) in
-    let c = pending-finished w js (J .1) in
-    omega arith
 
 -- ---- the lists
 

@@ -1,10 +1,10 @@
 -- Which row of a close's table decides, and what it is that none holds. Assumes nothing.
 use mathlib.Core.Path.{_≡_, refl, sym, ap, _∙_}
-use mathlib.Core.Bool.{Bool, true, false, not, _||_, cond}
+use mathlib.Core.Bool.{Bool, true, false, not, cond}
 use mathlib.Core.List.{List, [], _∷_}
 use Prim.Native.Nat.{ℕ, zero, suc, _+_, _*_, _≤_, _<_}
 use native.Mathlib.Omega.{arith}
-use borrow.Author.Tests.{eq-eqb, ne-eqb, eqb-true, lt-ltb, le-ltb, ltb-false, not-false}
+use borrow.Author.Tests.{eq-eqb, ne-eqb, lt-ltb, le-ltb, ltb-false, not-false}
 use lib.Dec.{eqb}
 use lib.ListN.{length, getD}
 use lib.Ieee.{Float}
@@ -16,7 +16,8 @@ use Rattle.rules.specs.Relay.{isFinished, jobAt, lowestUnfinished}
 use Rattle.rules.specs.RelayPlaces.{relayIn, relayFormed}
 use Rattle.rules.specs.RelayCall.{CloseLent, closing, closeTable}
 use Rattle.rules.proofs.Loops.{first-before}
-use Rattle.rules.proofs.Tables.{passes, none-of, within}
+use Rattle.rules.proofs.Tables.{all-fail, none-hold, within, exactly}
+use Rattle.rules.proofs.Tests.{or-false}
 use Rattle.encoded.specs.Words.{Binary32}
 use Rattle.relay_state.specs.State.{Sized}
 use Rattle.relay_move.proofs.Table.{jobs-are}
@@ -51,11 +52,7 @@ module _ (n k words floats nodes distances reports : ℕ) where
         pub wrong-reports : distances ≡ n * k → not (eqb reports 128) ≡ anyOf holds lengths
         unfolding anyOf
         wrong-reports e =
-            rw (eq-eqb words (relayWords n k) a, eq-eqb floats (relayFloats n k) b, eq-eqb nodes (n * k) c, eq-eqb distances (n * k) e) (last (not (eqb reports 128)))
-          where
-            last : (t : Bool) → t ≡ (t || false)
-            last true = refl
-            last false = refl
+            rw (eq-eqb words (relayWords n k) a, eq-eqb floats (relayFloats n k) b, eq-eqb nodes (n * k) c, eq-eqb distances (n * k) e) (or-false (not (eqb reports 128)))
 
   pub record Right : Type 0 where
     pub words-right : words ≡ relayWords n k
@@ -66,17 +63,13 @@ module _ (n k words floats nodes distances reports : ℕ) where
 
   pub right : anyOf holds lengths ≡ false → Right
   right h =
-      let a = none-of (notExactly (relayWords n k) words) (notExactly (relayFloats n k) floats ∷ notExactly (n * k) nodes ∷ notExactly (n * k) distances ∷ notExactly 128 reports ∷ []) h in
-      let b = none-of (notExactly (relayFloats n k) floats) (notExactly (n * k) nodes ∷ notExactly (n * k) distances ∷ notExactly 128 reports ∷ []) (a .1) in
-      let c = none-of (notExactly (n * k) nodes) (notExactly (n * k) distances ∷ notExactly 128 reports ∷ []) (b .1) in
-      let d = none-of (notExactly (n * k) distances) (notExactly 128 reports ∷ []) (c .1) in
-      let e = none-of (notExactly 128 reports) [] (d .1) in
+      let F = none-hold lengths h in
       record {
-        words-right = eqb-true words (relayWords n k) (not-false _ (a .0));
-        floats-right = eqb-true floats (relayFloats n k) (not-false _ (b .0));
-        nodes-right = eqb-true nodes (n * k) (not-false _ (c .0));
-        distances-right = eqb-true distances (n * k) (not-false _ (d .0));
-        reports-right = eqb-true reports 128 (not-false _ (e .0));
+        words-right = exactly (relayWords n k) words (F .0);
+        floats-right = exactly (relayFloats n k) floats (F .1 .0);
+        nodes-right = exactly (n * k) nodes (F .1 .1 .0);
+        distances-right = exactly (n * k) distances (F .1 .1 .1 .0);
+        reports-right = exactly 128 reports (F .1 .1 .1 .1 .0);
       }
 
 -- ---- row 13: tests that are the same of the places tried find the same place
@@ -161,22 +154,18 @@ pub record Ready (l : CloseLent) : Type 0 where
 pub ready : (l : CloseLent) → Binary32 (l .state-f) → decide (closeTable l) ≡ passed → Ready l
 unfolding closeTable closeRows row2 row4 row6 row12 row13 lowestUnfinished
 ready l B h =
-    let p2 = passes _ _ h in
-    let p4 = passes _ _ (p2 .1) in
-    let p6 = passes _ _ (p4 .1) in
-    let p12 = passes _ _ (p6 .1) in
-    let p13 = passes _ _ (p12 .1) in
-    let w = none-of (outside 1 64 (l .k)) [] (p4 .0) in
+    let F = all-fail _ h in
+    let ranges = none-hold (outside 1 64 (l .k) ∷ []) (F .1 .0) in
     let r = closing l in
     let test : ℕ → Bool = λ (i : ℕ). not (isFinished (jobAt r i)) in
-    let b = right (l .n) (l .k) (length (l .state-u)) (length (l .state-f)) (length (l .nodes)) (length (l .distances)) (length (l .reports)) (p6 .0) in
-    let last = ltb-false (firstFrom test 0 (length (r .jobs))) (length (r .jobs)) (p13 .0) in
+    let b = right (l .n) (l .k) (length (l .state-u)) (length (l .state-f)) (length (l .nodes)) (length (l .distances)) (length (l .reports)) (F .1 .1 .0) in
+    let last = ltb-false (firstFrom test 0 (length (r .jobs))) (length (r .jobs)) (F .1 .1 .1 .1 .0) in
     record {
       done =
           record {
-            sized = sized (l .n) (l .k) (l .state-u) (l .state-f) (l .nodes) (l .distances) (l .reports) (p2 .0) (w .0) (p6 .0);
+            sized = sized (l .n) (l .k) (l .state-u) (l .state-f) (l .nodes) (l .distances) (l .reports) (F .0) (ranges .0) (F .1 .1 .0);
             values = B;
-            formed = not-false _ (p12 .0);
+            formed = not-false _ (F .1 .1 .1 .0);
             finished = λ (i : ℕ) (g : i < length (r .jobs)). not-false (isFinished (jobAt r i)) (first-before test 0 (length (r .jobs)) i (omega arith) (omega arith));
           };
       nodes-long = b .nodes-right;

@@ -15,11 +15,10 @@ use Rattle.rules.specs.Relay.{Relay, moved, isFinished, jobAt, lowestUnfinished
 use Rattle.rules.specs.Places.{listWords, listFloats}
 use Rattle.rules.specs.RelayPlaces.{relayState, relayStateFloats, relayIn, relayFormed}
 use Rattle.rules.specs.RelayCall.{moveTable, moveObeys, moveRule, CloseLent, closeTable, closeObeys, closeRule}
-use Rattle.rules.proofs.Tables.{decide-append, held}
+use Rattle.rules.proofs.Tables.{decide-append, held, all-pass, hold-none, is-exactly}
 use Rattle.encoded.proofs.Back.{relay-back, state-long, floats-long}
 use Rattle.relay_kept.specs.Formed.{Formed}
 use Rattle.relay_kept.specs.Calls.{Sizes, moving, leaves}
-use Rattle.relay_kept.proofs.Rows.{all-pass, hold-none, is-exactly}
 use Rattle.relay_kept.proofs.Tested.{fitting, formed-encoded}
 
 module _ {n k : ℕ} (Z : Sizes n k) (r : Relay) (F : Formed n k r) where

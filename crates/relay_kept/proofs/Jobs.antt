@@ -11,7 +11,7 @@ use lib.Seq.{take-set-le, drop-set-lt}
 use lib.Ieee.{binary32, toBits, fits}
 use borrow.Author.Tests.{eqb-true, ltb-true, lt-ltb}
 use Rattle.rules.specs.Distance.{fit}
-use Rattle.rules.specs.Relay.{Stage, fresh, looked, pushed, measured, popped, isPopped, Job, equalNodes, noJob}
+use Rattle.rules.specs.Relay.{Stage, fresh, looked, pushed, measured, popped, isPopped, Job, isFinished, equalNodes, noJob}
 use Rattle.rules.specs.RelayPlaces.{stageFormed, jobFormed, jobsFormed, pending, pendingAt}
 use Rattle.rules.proofs.Tests.{both, together}
 use Rattle.neighbor.specs.Holdable.{Holdable}
@@ -170,4 +170,15 @@ pending-le n w [] J = omega arith
 pending-le n w (j ∷ js) J =
     let a = pending-job w j (J .0 .readable) in
     let b = pending-le n w js (J .1) in
+    omega arith
+
+-- nothing is pending where every job is finished
+pub pending-finished : (w : ℕ) (js : List Job) → All (λ (j : Job). isFinished j ≡ true) js → pendingAt w js ≡ 0
+unfolding pendingAt
+pending-finished w [] J = refl
+pending-finished w (j ∷ js) J =
+    let p = both (isPopped (j .first)) (isPopped (j .second)) (J .0) in
+    let a = pending-popped (eqb (j .u) w) (j .first) (p .0) in
+    let b = pending-popped (eqb (j .v) w) (j .second) (p .1) in
+    let c = pending-finished w js (J .1) in
     omega arith

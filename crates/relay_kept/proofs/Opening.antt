@@ -23,7 +23,7 @@ use Rattle.rules.specs.Places.{listsIn}
 use Rattle.rules.specs.RelayPlaces.{stageFormed, pendingAt}
 use Rattle.rules.specs.RelayCall.{OpenLent, openTable, openedOn}
 use Rattle.rules.proofs.Loops.{first-before, length-ones, getD-ones}
-use Rattle.rules.proofs.Tables.{within}
+use Rattle.rules.proofs.Tables.{within, all-fail, none-hold, exactly}
 use Rattle.rules.proofs.Tests.{neither}
 use Rattle.neighbor.specs.Holdable.{Holdable}
 use Rattle.neighbor.proofs.Bits.{holdable-zero, holdable-between}
@@ -35,7 +35,6 @@ use Rattle.encoded.proofs.Rows.{all-ones, length-part, all-part}
 use Rattle.encoded.proofs.Binary.{binary-entries}
 use Rattle.relay_kept.specs.Formed.{ListFormed, JobFormed, Formed}
 use Rattle.relay_kept.specs.Calls.{Sizes}
-use Rattle.relay_kept.proofs.Rows.{all-fail, none-hold, exactly}
 use Rattle.relay_kept.proofs.Lists.{list-formed, lists-formed}
 use Rattle.relay_kept.proofs.Jobs.{whole, pending-fresh}
 

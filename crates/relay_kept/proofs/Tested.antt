@@ -19,7 +19,7 @@ use Rattle.rules.specs.Descent.{listAt}
 use Rattle.rules.specs.Relay.{Job, Relay}
 use Rattle.rules.specs.Places.{sameWords, sameFloats, padded}
 use Rattle.rules.specs.RelayPlaces.{roomFloats, jobsFloats, relayState, relayStateFloats, jobIn, relayIn, jobFormed, jobsFormed, pendingAt, lengthsFormed, relayFormed}
-use Rattle.rules.proofs.Tables.{within}
+use Rattle.rules.proofs.Tables.{within, inside}
 use Rattle.rules.proofs.Tests.{both, together}
 use Rattle.rules.proofs.Loops.{length-ones}
 use Rattle.lists.specs.All.{All}
@@ -31,7 +31,6 @@ use Rattle.encoded.proofs.Jobs.{job-readable}
 use Rattle.encoded.proofs.Back.{relay-back}
 use Rattle.encoded.proofs.Binary.{binary-zero, binary-entries, binary-padded, binary-rooms, jobs-binary}
 use Rattle.relay_kept.specs.Formed.{JobFormed, Formed}
-use Rattle.relay_kept.proofs.Rows.{inside}
 use Rattle.relay_kept.proofs.Lists.{list-formed, formed-list, lists-formed, formed-lists}
 use Rattle.relay_kept.proofs.Jobs.{parts, holdable-job, jobs-formed, formed-jobs, pending-le}
 

@@ -5,7 +5,7 @@ use mathlib.Core.List.{List, [], _∷_}
 use Prim.Native.Nat.{ℕ, suc, _+_, _*_, _≤_, _<_}
 use native.Mathlib.Nat.{mul-suc, mul-le-mul}
 use native.Mathlib.Omega.{arith}
-use borrow.Author.Tests.{eq-eqb, ne-eqb, eqb-true, le-leb, lt-leb, leb-false, not-false}
+use borrow.Author.Tests.{eq-eqb, ne-eqb, le-leb, lt-leb, leb-false, not-false}
 use lib.Dec.{eqb, leb}
 use lib.ListN.{length, getD}
 use lib.Ieee.{Float}
@@ -16,8 +16,8 @@ use Rattle.rules.specs.Calls.{relayWords, relayFloats, moveRows}
 use Rattle.rules.specs.Relay.{Relay, isFinished, jobAt}
 use Rattle.rules.specs.RelayPlaces.{relayIn, relayFormed}
 use Rattle.rules.specs.RelayCall.{MoveLent, relayOf, moveTable}
-use Rattle.rules.proofs.Tables.{passes, none-of, within}
-use Rattle.rules.proofs.Tests.{neither}
+use Rattle.rules.proofs.Tables.{all-fail, none-hold, within, exactly}
+use Rattle.rules.proofs.Tests.{neither, or-false}
 use Rattle.encoded.specs.Words.{Binary32}
 use Rattle.relay_state.specs.State.{Sized}
 use Rattle.relay_state.proofs.Parts.{sizes}
@@ -39,17 +39,12 @@ module _ (n k words floats : ℕ) where
 
   pub wrong-floats : words ≡ relayWords n k → not (eqb floats (relayFloats n k)) ≡ anyOf holds lengths
   unfolding anyOf
-  wrong-floats e = rw (eq-eqb words (relayWords n k) e) (last (not (eqb floats (relayFloats n k))))
-    where
-      last : (b : Bool) → b ≡ (b || false)
-      last true = refl
-      last false = refl
+  wrong-floats e = rw (eq-eqb words (relayWords n k) e) (or-false (not (eqb floats (relayFloats n k))))
 
   lengths-right : anyOf holds lengths ≡ false → (words ≡ relayWords n k) × (floats ≡ relayFloats n k)
   lengths-right h =
-      let a = none-of (notExactly (relayWords n k) words) (notExactly (relayFloats n k) floats ∷ []) h in
-      let b = none-of (notExactly (relayFloats n k) floats) [] (a .1) in
-      (eqb-true words (relayWords n k) (not-false _ (a .0)), eqb-true floats (relayFloats n k) (not-false _ (b .0)))
+      let F = none-hold lengths h in
+      (exactly (relayWords n k) words (F .0), exactly (relayFloats n k) floats (F .1 .0))
 
 -- ---- row 13
 
@@ -149,16 +144,12 @@ pub record Ready (l : MoveLent) : Type 0 where
 pub ready : (l : MoveLent) → decide (moveTable l) ≡ passed → Ready l
 unfolding moveTable moveRows row2 row4 row6 row12 row13
 ready l h =
-    let p2 = passes _ _ h in
-    let p4 = passes _ _ (p2 .1) in
-    let p6 = passes _ _ (p4 .1) in
-    let p12 = passes _ _ (p6 .1) in
-    let p13 = passes _ _ (p12 .1) in
-    let w = none-of (outside 1 64 (l .k)) [] (p4 .0) in
-    let e = neither (leb (length (relayOf l .jobs)) (l .job)) (isFinished (jobAt (relayOf l) (l .job))) (p13 .0) in
+    let F = all-fail _ h in
+    let ranges = none-hold (outside 1 64 (l .k) ∷ []) (F .1 .0) in
+    let e = neither (leb (length (relayOf l .jobs)) (l .job)) (isFinished (jobAt (relayOf l) (l .job))) (F .1 .1 .1 .1 .0) in
     record {
-      sized = sized (l .n) (l .k) (l .job) (l .state-u) (l .state-f) (p2 .0) (w .0) (p6 .0);
-      formed = not-false _ (p12 .0);
+      sized = sized (l .n) (l .k) (l .job) (l .state-u) (l .state-f) (F .0) (ranges .0) (F .1 .1 .0);
+      formed = not-false _ (F .1 .1 .1 .0);
       present = leb-false (length (relayOf l .jobs)) (l .job) (e .0);
       unfinished = e .1;
     }

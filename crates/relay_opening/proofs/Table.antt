@@ -5,7 +5,7 @@ use mathlib.Core.List.{List, [], _∷_, _++_}
 use Prim.Native.Nat.{ℕ, _+_, _*_, _%_, _≤_, _<_}
 use native.Mathlib.Nat.{mul-le-mul}
 use native.Mathlib.Omega.{arith}
-use borrow.Author.Tests.{leb-false, ltb-false, eqb-true, not-false, eq-eqb, ne-eqb, lt-ltb, le-ltb}
+use borrow.Author.Tests.{leb-false, eqb-true, not-false, eq-eqb, ne-eqb, lt-ltb, le-ltb}
 use lib.Dec.{leb, ltb, eqb}
 use Rattle.rules.specs.declared.Answer.{Answer}
 use Rattle.rules.specs.declared.Answer.the-variants.{Done, Refused}
@@ -15,11 +15,11 @@ use Rattle.rules.specs.Loops.{anyOf}
 use Rattle.rules.specs.Numbers.{outside}
 use Rattle.rules.specs.Refusals.{Row, code, passed, refused, decide, decisionOf, holds, notExactly, lessThan, row1, row2, row3, row4, row6, row9, row10ofJobs, row12, jobCount, jobU, jobV, badJob, firstBadJob}
 use Rattle.rules.specs.Calls.{scratch, odd, relayWords, relayFloats, taughtScratch, openRows}
-use Rattle.rules.proofs.Loops.{first-before}
-use Rattle.rules.proofs.Tables.{passes, held, left, none-of, within}
+use Rattle.rules.proofs.Tables.{all-fail, held, left, none-hold, within}
 use Rattle.rules.proofs.Tests.{neither, or-false}
 use Rattle.table.proofs.Rows.{by-answer, past-answer, gameRows}
 use Rattle.relay_open.specs.Open.{JobsIn}
+use Rattle.relay_kept.proofs.Opening.{job-passes}
 
 -- ---- row 6
 
@@ -47,9 +47,8 @@ module _ (n k nodes distances jobs : ℕ) where
 
   pub lists-long : anyOf holds lists ≡ false → (nodes ≡ n * k) × (distances ≡ n * k)
   lists-long h =
-      let b1 = none-of _ _ h in
-      let b2 = none-of _ _ (b1 .1) in
-      (eqb-true _ _ (not-false _ (b1 .0)), eqb-true _ _ (not-false _ (b2 .0)))
+      let lengths = none-hold _ h in
+      (eqb-true _ _ (not-false _ (lengths .0)), eqb-true _ _ (not-false _ (lengths .1 .0)))
 
 module _ (n k words floats su sf : ℕ) where
   abbrev pub places : List Bool
@@ -152,24 +151,19 @@ module _ (dimension n lanes k nodes distances : ℕ) (jobs : List ℕ) (jobsLong
 
 -- ---- jobs that row 9 passes
 
-good-job : (n : ℕ) (jobs : List ℕ) (i : ℕ) → i < jobCount jobs → jobCount jobs ≤ firstBadJob n jobs → badJob n jobs i ≡ false
-unfolding firstBadJob
-good-job n jobs i l h = first-before (badJob n jobs) 0 (jobCount jobs) i (omega arith) (omega arith)
-
 pub jobs-in : (n : ℕ) (jobs : List ℕ) → row9 n jobs .test ≡ false → JobsIn n jobs
 unfolding row9 badJob
 jobs-in n jobs h =
-    let p = neither (outside 1 64 (jobCount jobs)) (ltb (firstBadJob n jobs) (jobCount jobs)) h in
-    let m = ltb-false (firstBadJob n jobs) (jobCount jobs) (p .1) in
+    let count = neither (outside 1 64 (jobCount jobs)) (ltb (firstBadJob n jobs) (jobCount jobs)) h in
     record {
-      few = within 1 64 (jobCount jobs) (p .0) .to;
-      us = λ (i : ℕ) (l : i < jobCount jobs). leb-false n (jobU jobs i) (neither (leb n (jobU jobs i)) (leb n (jobV jobs i)) (good-job n jobs i l m) .0);
-      vs = λ (i : ℕ) (l : i < jobCount jobs). leb-false n (jobV jobs i) (neither (leb n (jobU jobs i)) (leb n (jobV jobs i)) (good-job n jobs i l m) .1);
+      few = within 1 64 (jobCount jobs) (count .0) .to;
+      us = λ (i : ℕ) (l : i < jobCount jobs). leb-false n (jobU jobs i) (neither (leb n (jobU jobs i)) (leb n (jobV jobs i)) (job-passes n jobs h i l) .0);
+      vs = λ (i : ℕ) (l : i < jobCount jobs). leb-false n (jobV jobs i) (neither (leb n (jobU jobs i)) (leb n (jobV jobs i)) (job-passes n jobs h i l) .1);
     }
 
 pub jobs-passed : {n : ℕ} {jobs : List ℕ} {j : Answer} → decisionOf j ≡ decide (row9 n jobs ∷ []) → j ≡ Done → JobsIn n jobs
 unfolding decisionOf
-jobs-passed {n} {jobs} e f = jobs-in n jobs (passes (row9 n jobs) [] (sym e ∙ ap decisionOf f) .0)
+jobs-passed {n} {jobs} e f = jobs-in n jobs (all-fail (row9 n jobs ∷ []) (sym e ∙ ap decisionOf f) .0)
 
 -- ---- no row holds
 
@@ -188,28 +182,19 @@ pub ready : {dimension n lanes k nodes distances : ℕ} {jobs : List ℕ} {words
     → decide (rows dimension n lanes k nodes distances jobs jobsLong words floats su sf apart formed) ≡ passed → Ready dimension n lanes k nodes distances jobs words floats
 unfolding openRows row1 row2 row3 row4 row6
 ready {dimension} {n} {lanes} {k} {nodes} {distances} {jobs} jobsLong su sf apart formed h =
-    let p1 = passes _ _ h in
-    let p2 = passes _ _ (p1 .1) in
-    let p3 = passes _ _ (p2 .1) in
-    let p4 = passes _ _ (p3 .1) in
-    let p6 = passes _ _ (p4 .1) in
-    let p9 = passes (row9 n jobs) (row10ofJobs apart jobs ∷ row12 formed ∷ []) (p6 .1) in
-    let kk = none-of _ _ (p4 .0) in
-    let b1 = none-of _ _ (p6 .0) in
-    let b2 = none-of _ _ (b1 .1) in
-    let b3 = none-of _ _ (b2 .1) in
-    let b4 = none-of _ _ (b3 .1) in
-    let b5 = none-of _ _ (b4 .1) in
+    let F = all-fail _ h in
+    let ranges = none-hold _ (F .1 .1 .1 .0) in
+    let lengths = none-hold _ (F .1 .1 .1 .1 .0) in
     record {
-      lanes-long = eqb-true _ _ (not-false _ (p3 .0));
-      few-nodes = within 2 1024 _ (p2 .0) .to;
-      some-k = within 1 64 _ (kk .0) .from;
-      few-k = within 1 64 _ (kk .0) .to;
-      nodes-long = eqb-true _ _ (not-false _ (b1 .0));
-      distances-long = eqb-true _ _ (not-false _ (b2 .0));
-      words-long = eqb-true _ _ (not-false _ (b4 .0));
-      floats-long = eqb-true _ _ (not-false _ (b5 .0));
-      jobs-good = jobs-in n jobs (p9 .0);
+      lanes-long = eqb-true _ _ (not-false _ (F .1 .1 .0));
+      few-nodes = within 2 1024 _ (F .1 .0) .to;
+      some-k = within 1 64 _ (ranges .0) .from;
+      few-k = within 1 64 _ (ranges .0) .to;
+      nodes-long = eqb-true _ _ (not-false _ (lengths .0));
+      distances-long = eqb-true _ _ (not-false _ (lengths .1 .0));
+      words-long = eqb-true _ _ (not-false _ (lengths .1 .1 .1 .0));
+      floats-long = eqb-true _ _ (not-false _ (lengths .1 .1 .1 .1 .0));
+      jobs-good = jobs-in n jobs (F .1 .1 .1 .1 .1 .0);
     }
 
 pub record Most (n k : ℕ) : Type 0 where

@@ -1,14 +1,14 @@
--- Rows and verdicts: which row decides, and what it is that none holds. Assumes nothing.
+-- Rows and verdicts: which row decides, and that a table passes exactly when the test of each of its rows fails. Assumes nothing.
 use mathlib.Core.Path.{_≡_, refl, _∙_}
 use mathlib.Core.Bool.{Bool, true, false, cond}
 use mathlib.Core.List.{List, [], _∷_, _++_}
 use Prim.Native.Nat.{ℕ, _≤_}
 use native.Mathlib.Omega.{arith}
-use borrow.Author.Tests.{ltb-false}
-use lib.Dec.{ltb}
+use borrow.Author.Tests.{ltb-false, eqb-true, eq-eqb, not-false, le-ltb}
+use lib.Dec.{eqb, ltb}
 use Rattle.rules.specs.Loops.{anyOf}
 use Rattle.rules.specs.Numbers.{outside}
-use Rattle.rules.specs.Refusals.{Row, Code, passed, refused, decide, holds}
+use Rattle.rules.specs.Refusals.{Row, Code, passed, refused, decide, holds, notExactly}
 use Rattle.rules.proofs.Tests.{neither}
 
 -- ---- a row in front of others
@@ -62,12 +62,44 @@ decide-before (r ∷ rs) qs c h = go (r .test) (decide-before rs qs c) h
     go true more h = h
     go false more h = more h
 
+-- ---- none of the rows holds
+
+abbrev pub Fail : List Row → Type 0
+Fail [] = Unit {0}
+Fail (r ∷ rs) = (r .test ≡ false) × Fail rs
+
+pub all-fail : (rs : List Row) → decide rs ≡ passed → Fail rs
+all-fail [] h = tt
+all-fail (r ∷ rs) h = let p = passes r rs h in (p .0, all-fail rs (p .1))
+
+pub all-pass : (rs : List Row) → Fail rs → decide rs ≡ passed
+unfolding decide
+all-pass [] F = refl
+all-pass (r ∷ rs) F = left r rs (F .0) ∙ all-pass rs (F .1)
+
 -- ---- the tests of a row with several
 
-pub none-of : (b : Bool) (bs : List Bool) → anyOf holds (b ∷ bs) ≡ false → (b ≡ false) × (anyOf holds bs ≡ false)
+abbrev pub None : List Bool → Type 0
+None [] = Unit {0}
+None (b ∷ bs) = (b ≡ false) × None bs
+
+pub none-hold : (bs : List Bool) → anyOf holds bs ≡ false → None bs
 unfolding anyOf
-none-of true bs h = let z : _≡_ {A = ℕ} 0 1 = cc in absurd (omega arith)
-none-of false bs h = (refl, h)
+none-hold [] h = tt
+none-hold (b ∷ bs) h = let p = neither b (anyOf holds bs) h in (p .0, none-hold bs (p .1))
+
+pub hold-none : (bs : List Bool) → None bs → anyOf holds bs ≡ false
+unfolding anyOf
+hold-none [] F = refl
+hold-none (b ∷ bs) F = rw (F .0) (hold-none bs (F .1))
+
+-- ---- lengths
+
+pub exactly : (wanted len : ℕ) → notExactly wanted len ≡ false → len ≡ wanted
+exactly wanted len h = eqb-true len wanted (not-false (eqb len wanted) h)
+
+pub is-exactly : (wanted len : ℕ) → len ≡ wanted → notExactly wanted len ≡ false
+is-exactly wanted len e = rw (eq-eqb len wanted e)
 
 -- ---- ranges
 
@@ -78,3 +110,7 @@ pub record Within (low high x : ℕ) : Type 0 where
 pub within : (low high x : ℕ) → outside low high x ≡ false → Within low high x
 unfolding outside
 within low high x h = let n = neither (ltb x low) (ltb high x) h in record { from = ltb-false x low (n .0); to = ltb-false high x (n .1) }
+
+pub inside : (low high x : ℕ) → low ≤ x → x ≤ high → outside low high x ≡ false
+unfolding outside
+inside low high x a b = rw (le-ltb x low a, le-ltb high x b)

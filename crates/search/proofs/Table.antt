@@ -16,8 +16,8 @@ use Rattle.rules.specs.Refusals.{Row, code, codeOf, passed, refused, decide, de
 use Rattle.rules.specs.Calls.{scratch, searchScratch, searchRows}
 use Rattle.rules.specs.SearchCall.{SearchLent, searchTable}
 use Rattle.rules.proofs.Loops.{first-before}
-use Rattle.rules.proofs.Tables.{goes-on, stops, passes, held, left, none-of, within}
-use Rattle.rules.proofs.Tests.{neither}
+use Rattle.rules.proofs.Tables.{goes-on, stops, all-fail, held, left, none-hold, within}
+use Rattle.rules.proofs.Tests.{neither, or-false}
 use Rattle.table.proofs.Rows.{by-answer, past-answer, gameRows}
 use Rattle.walk.specs.Walks.{Roots}
 use Rattle.search.specs.Search.{Ready}
@@ -46,11 +46,7 @@ module _ (n graph w k results bits words floats : ℕ) where
 
   pub wrong-floats : graph ≡ n * w → k ≤ results → k ≤ bits → searchScratch n ≤ words → ltb floats (searchScratch n) ≡ anyOf holds lengths
   unfolding anyOf
-  wrong-floats e f g h = rw (eq-eqb graph (n * w) e, le-ltb results k f, le-ltb bits k g, le-ltb words (searchScratch n) h) (last (ltb floats (searchScratch n)))
-    where
-      last : (b : Bool) → b ≡ (b || false)
-      last true = refl
-      last false = refl
+  wrong-floats e f g h = rw (eq-eqb graph (n * w) e, le-ltb results k f, le-ltb bits k g, le-ltb words (searchScratch n) h) (or-false (ltb floats (searchScratch n)))
 
 -- ---- the rows in order
 
@@ -144,31 +140,20 @@ roots-of n roots h = go (outside 1 64 (length roots)) (ltb (firstBadRoot n roots
 pub ready : (l : SearchLent) → decide (searchTable l) ≡ passed → Ready l
 unfolding searchTable searchRows row1 row2 row3 row4 row6 row8
 ready l h =
-    let p1 = passes _ _ h in
-    let p2 = passes _ _ (p1 .1) in
-    let p3 = passes _ _ (p2 .1) in
-    let p4 = passes _ _ (p3 .1) in
-    let p6 = passes _ _ (p4 .1) in
-    let p7 = passes _ _ (p6 .1) in
-    let p8 = passes _ _ (p7 .1) in
-    let w = none-of _ _ (p4 .0) in
-    let k = none-of _ _ (w .1) in
-    let b1 = none-of _ _ (p6 .0) in
-    let b2 = none-of _ _ (b1 .1) in
-    let b3 = none-of _ _ (b2 .1) in
-    let b4 = none-of _ _ (b3 .1) in
-    let b5 = none-of _ _ (b4 .1) in
+    let F = all-fail _ h in
+    let ranges = none-hold _ (F .1 .1 .1 .0) in
+    let lengths = none-hold _ (F .1 .1 .1 .1 .0) in
     record {
-      lanes-long = eqb-true _ _ (not-false _ (p3 .0));
-      query-long = eqb-true _ _ (not-false _ (p8 .0));
-      few-nodes = within 2 4096 _ (p2 .0) .to;
-      graph-long = eqb-true _ _ (not-false _ (b1 .0));
-      narrow = within 1 64 _ (w .0) .to;
-      roots = roots-of _ _ (p7 .0);
-      some = within 1 64 _ (k .0) .from;
-      few = within 1 64 _ (k .0) .to;
-      nodes-room = ltb-false _ _ (b2 .0);
-      bits-room = ltb-false _ _ (b3 .0);
-      words-room = ltb-false _ _ (b4 .0);
-      floats-room = ltb-false _ _ (b5 .0);
+      lanes-long = eqb-true _ _ (not-false _ (F .1 .1 .0));
+      query-long = eqb-true _ _ (not-false _ (F .1 .1 .1 .1 .1 .1 .0));
+      few-nodes = within 2 4096 _ (F .1 .0) .to;
+      graph-long = eqb-true _ _ (not-false _ (lengths .0));
+      narrow = within 1 64 _ (ranges .0) .to;
+      roots = roots-of _ _ (F .1 .1 .1 .1 .1 .0);
+      some = within 1 64 _ (ranges .1 .0) .from;
+      few = within 1 64 _ (ranges .1 .0) .to;
+      nodes-room = ltb-false _ _ (lengths .1 .0);
+      bits-room = ltb-false _ _ (lengths .1 .1 .0);
+      words-room = ltb-false _ _ (lengths .1 .1 .1 .0);
+      floats-room = ltb-false _ _ (lengths .1 .1 .1 .1 .0);
     }

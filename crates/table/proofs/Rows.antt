@@ -9,7 +9,7 @@ use Rattle.rules.specs.declared.Answer.{Answer}
 use Rattle.rules.specs.declared.Answer.the-variants.{Done, Refused}
 use Rattle.rules.specs.declared.Refusal.{Refusal}
 use Rattle.rules.specs.Refusals.{Row, codeOf, decide, decisionOf, row1, row2, row3}
-use Rattle.rules.proofs.Tables.{passes, decide-append, decide-before, within}
+use Rattle.rules.proofs.Tables.{all-fail, decide-append, decide-before, within}
 
 module _ (rs qs : List Row) {a : Answer} (e : decisionOf a ≡ decide rs) where
   -- they refused: so does the whole table
@@ -36,10 +36,8 @@ pub record Game (most dimension n lanes : ℕ) : Type 0 where
 pub game : {most dimension n lanes : ℕ} {a : Answer} → decisionOf a ≡ decide (gameRows most dimension n lanes) → a ≡ Done → Game most dimension n lanes
 unfolding decisionOf row1 row2 row3
 game {most} {dimension} {n} {lanes} e f =
-    let p1 = passes (row1 dimension) (row2 most n ∷ row3 dimension n lanes ∷ []) (sym e ∙ ap decisionOf f) in
-    let p2 = passes (row2 most n) (row3 dimension n lanes ∷ []) (p1 .1) in
-    let p3 = passes (row3 dimension n lanes) [] (p2 .1) in
-    record { wide = within 1 64 dimension (p1 .0) .to; nodes = within 2 most n (p2 .0) .to; some = within 2 most n (p2 .0) .from; long = eqb-true lanes (n * dimension) (not-false _ (p3 .0)) }
+    let F = all-fail (gameRows most dimension n lanes) (sym e ∙ ap decisionOf f) in
+    record { wide = within 1 64 dimension (F .0) .to; nodes = within 2 most n (F .1 .0) .to; some = within 2 most n (F .1 .0) .from; long = eqb-true lanes (n * dimension) (not-false _ (F .1 .1 .0)) }
 
 -- node 0 has lanes
 pub first-room : {most dimension n lanes : ℕ} → Game most dimension n lanes → (0 + 1) * dimension ≤ lanes
