@@ -1,4 +1,4 @@
--- `Members`: one list of a context. `Contexts`: those of all nodes. `Spare`: the bits behind those of the pairs.
+-- `Members`: one list of a context. `Contexts`: those of all nodes. `Spare`: the bits behind those of the pairs. `Whole`: the three parts one after another.
 pub mod Members
 pub mod Contexts
 pub mod Spare

@@ -1,4 +1,4 @@
--- A node expanded in lent scratch.
+-- A node expanded in lent scratch. `Areas`: the areas of scratch. `Steps`: what each step leaves. `Queue`: room for all that join it.
 pub mod Areas
 pub mod Steps
 pub mod Queue

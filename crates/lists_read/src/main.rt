@@ -1,6 +1,4 @@
-// Reads each list that an argument names to its end, and prints how many cases of each kind it has,
-// and how many numbers with their sum. What it must print, `oracle/make-lists` takes from the lists'
-// own heads and labels.
+// Reads each list that an argument names to its end, and prints how many cases of each kind it has, and how many numbers with their sum.
 use cases::Cursor;
 use libc::STDOUT_FILENO;
 

@@ -1,5 +1,5 @@
 -- What is proved of distances, beside the functions. `Steps`: what the functions lean on.
--- `Symmetry`, `Fitness`, `Self`: the distance itself. `Pairs`: row 10 of all pairs.
+-- `Symmetry`, `Fitness`, `Finite`, `Self`: the distance itself. `Pairs`: row 10 of all pairs.
 pub mod Steps
 pub mod Symmetry
 pub mod Fitness

@@ -1,5 +1,4 @@
--- "Order: by distance, then node number" is a strict total order of what a list can hold, since it is the order of one number:
--- a distance's bits, times a number above both nodes, and the node. Assumes nothing.
+-- "Order: by distance, then node number" is a strict total order, since it is the order of one number: bits and node. Assumes nothing.
 use mathlib.Core.Path.{_≡_, refl, sym, ap, _∙_}
 use mathlib.Core.Bool.{Bool, true, false, _&&_, _||_}
 use Prim.Native.Nat.{ℕ, suc, _+_, _*_, _≤_, _<_}

@@ -1,6 +1,4 @@
-// Every row of the table that `begin` and `iterate` can give, its edges, several rows at once, and states harmed in a place; says of each
-// call what it answered and what became of the lent places. The list names each call; what is printed of it was typed from the
-// specification.
+// Every row of the table that `begin` and `iterate` can give, its edges, several rows at once, and states harmed in a place.
 use cases::Cursor;
 
 mod call;

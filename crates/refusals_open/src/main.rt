@@ -1,5 +1,4 @@
-// Every row of the table of a relay's `open`, at its edges and beside the rows after it: each case of stdin is called on lent places full of
-// junk, and says what became of them. stdin says what its numbers are.
+// Every row of the table of a relay's `open`, at its edges and beside the rows after it; stdin says what its numbers are.
 use call::Call;
 use call::Entry;
 use cases::Cursor;

@@ -1,5 +1,4 @@
-// A relay's state, made by `open` and by moves and then damaged; a move and a close on it, and their lines: the answer, and what became of
-// the lent places.
+// A relay's state, made by `open` and by moves and then damaged; a move and a close on it, and what became of the lent places.
 use libc::STDOUT_FILENO;
 use refusals::Left;
 use rules::Answer;

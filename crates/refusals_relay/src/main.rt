@@ -1,5 +1,4 @@
-// Every row of the tables of a relay's move and close, at its edges and beside the rows after it, and every clause of a well-formed relay
-// state: each case of stdin is made and called, and says what became of the lent places. stdin says what its numbers are.
+// Every row of the tables of a relay's move and close, and every clause of a well-formed relay state; stdin says what its numbers are.
 use call::Lent;
 use call::State;
 use cases::Cursor;

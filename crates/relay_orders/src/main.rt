@@ -1,5 +1,4 @@
-// Square I of the settled squares in three orders of its moves, and then 44 orders of each of nine sets of jobs, through open, a move and
-// a close: every order of one set must end in the same lists.
+// Square I in three orders of its moves, and 44 orders of each of nine sets of jobs: every order of one set must end in the same lists.
 use libc::STDOUT_FILENO;
 
 mod order;

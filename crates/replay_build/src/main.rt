@@ -1,5 +1,4 @@
-// Replays the oracle's builds: each case of the list is given to `build`, on lent places full of junk,
-// and the graph that it leaves is compared with the Rust's.
+// Replays the oracle's builds on lent places full of junk, and compares the graph of each with the Rust's.
 use cases::Cursor;
 use params::SsgParams;
 use rules::Answer;

@@ -1,5 +1,4 @@
-// Replays the oracle's descents: each case of the list is given to `begin` and then `iterate`, or to `iterate` alone, on lent places full
-// of junk, and what every call answers and leaves is compared with what the Rust did.
+// Replays the oracle's descents on lent places full of junk, and compares what every call answers and leaves with what the Rust did.
 use cases::Cursor;
 use cases::Size;
 use rules::Answer;

@@ -1,5 +1,4 @@
-// Replays the oracle's relays: each case of the list is opened, moved in its order and closed, on lent places full of junk; the list
-// that each move leaves, the lists at the end and the reports are compared with the Rust's.
+// Replays the oracle's relays on lent places full of junk, and compares the list that each move leaves, the lists at the end and the reports.
 use cases::Cursor;
 use rules::Answer;
 use tallies::Outcome;

@@ -1,5 +1,4 @@
-// Replays the oracle's searches: each case of the list is given to `search`, on lent places full of
-// junk, and what it answers and leaves is compared with what the Rust answered.
+// Replays the oracle's searches on lent places full of junk, and compares what each answers and leaves with what the Rust answered.
 use cases::Cursor;
 use rules::SearchAnswer;
 use tallies::Outcome;

@@ -1,5 +1,4 @@
-// The common ground of the replays: the next case of a list, our numbers beside a list's, and lent
-// buffers looked at after a call.
+// The common ground of the replays: the next case of a list, our numbers beside a list's, and lent buffers looked at after a call.
 ghost use mathlib.Core.Path.{_≡_};
 ghost use lib.ListN.{length, drop};
 ghost use Rattle.cases.specs.Text.{wordsAt};

@@ -1,5 +1,4 @@
-// A list's descent state, read into the places of ours: list nodes, four context lists of 65 words for
-// each node, and the words of the visited pairs; distances beside them.
+// A list's descent state, read into the places of ours.
 use cases::Cursor;
 
 // A context list: its length, and 64 places.
