@@ -1,8 +1,7 @@
 -- The parts of the state together: rooms, lengths and jobs. Assumes nothing.
 use mathlib.Core.Path.{_≡_, sym, ap, _∙_}
 use mathlib.Core.List.{List, [], _∷_, _++_, append-assoc, append-nil}
-use Prim.Native.Nat.{ℕ, suc, _+_, _-_, _*_, _≤_, _<_}
-use native.Mathlib.Nat.{suc-mul, mul-le-mul-right}
+use Prim.Native.Nat.{ℕ, _+_, _-_, _*_, _≤_, _<_}
 use native.Mathlib.Omega.{arith}
 use borrow.Rule.Slice.PartMut.{putMid}
 use lib.ListN.{length, take, drop, replicate, length-append, length-drop, length-replicate, getD-replicate, drop-of-length-le}
@@ -21,6 +20,7 @@ use Rattle.rules.proofs.Loops.{length-ones, getD-ones, each-alike}
 use Rattle.lists.proofs.Slices.{length-entries, nodesOf-entries, distancesOf-entries}
 use Rattle.buffers.proofs.Places.{put-length}
 use Rattle.encoded.proofs.Lists.{room-words, room-floats, wordRow, floatRow, length-lengths, length-at}
+use Rattle.encoded.proofs.Rows.{length-part}
 use Rattle.relay_state.specs.State.{Sized}
 use Rattle.relay_state.proofs.Parts.{sizes}
 use Rattle.relay_state.proofs.Reading.{joined-ones}
@@ -44,20 +44,13 @@ module _ (n k : ℕ) (us : List ℕ) (fs : List Float) (lu : length us ≡ n * k
   abbrev list : ℕ → List Neighbor
   list w = entries k (part k w us) (part k w fs)
 
-  part-long : {A : Type 0} (w : ℕ) (xs : List A) → length xs ≡ n * k → w < n → length (part k w xs) ≡ k
-  unfolding part
-  part-long w xs l h =
-      let s = suc-mul w k in
-      let m : suc w * k ≤ n * k = mul-le-mul-right k h in
-      length-take-le k (drop (w * k) xs) (simp length-drop (omega arith))
-
   pub rooms-are : roomWords (k + 64) (listsIn n k us fs) ≡ each (λ (w : ℕ). padded (k + 64) 0 (part k w us)) n
   unfolding listsIn
   rooms-are =
       room-words (k + 64) (each (λ (w : ℕ). list w ∷ []) n) ∙ joined-ones (wordRow (k + 64)) list n
       ∙ each-alike (λ (w : ℕ). wordRow (k + 64) (list w)) (λ (w : ℕ). padded (k + 64) 0 (part k w us)) n (λ (w : ℕ) (h : w < n).
-      let a = part-long w us lu h in
-      let b = part-long w fs lf h in
+      let a = length-part k n w us lu h in
+      let b = length-part k n w fs lf h in
       ap (padded (k + 64) 0) (nodesOf-entries k (part k w us) (part k w fs) (omega arith) ∙ take-all k (part k w us) (omega arith)))
 
   pub floats-are : roomFloats (k + 64) (listsIn n k us fs) ≡ each (λ (w : ℕ). padded (k + 64) zero32 (part k w fs)) n
@@ -65,8 +58,8 @@ module _ (n k : ℕ) (us : List ℕ) (fs : List Float) (lu : length us ≡ n * k
   floats-are =
       room-floats (k + 64) (each (λ (w : ℕ). list w ∷ []) n) ∙ joined-ones (floatRow (k + 64)) list n
       ∙ each-alike (λ (w : ℕ). floatRow (k + 64) (list w)) (λ (w : ℕ). padded (k + 64) zero32 (part k w fs)) n (λ (w : ℕ) (h : w < n).
-      let a = part-long w us lu h in
-      let b = part-long w fs lf h in
+      let a = length-part k n w us lu h in
+      let b = length-part k n w fs lf h in
       ap (padded (k + 64) zero32) (distancesOf-entries k (part k w us) (part k w fs) (omega arith) ∙ take-all k (part k w fs) (omega arith)))
 
   pub lengths-are : lengthsOf (listsIn n k us fs) ≡ replicate n k
@@ -78,8 +71,8 @@ module _ (n k : ℕ) (us : List ℕ) (fs : List Float) (lu : length us ≡ n * k
       let c = length-replicate n k in
       ext-getD 0 (lengthsOf ls) (replicate n k) (omega arith) (λ (w : ℕ) h.
       let below : w < n = omega arith in
-      let d = part-long w us lu below in
-      let e = part-long w fs lf below in
+      let d = length-part k n w us lu below in
+      let e = length-part k n w fs lf below in
       length-at ls w (omega arith) ∙ ap length (getD-ones list n w [] below) ∙ length-entries k (part k w us) (part k w fs) (omega arith) (omega arith)
       ∙ sym (getD-replicate n w k 0 below))
 
