@@ -64,7 +64,7 @@ module _ (d : Between) (q : ℕ) where
   abbrev OfNode : Neighbor → Type 0
   OfNode e = entry d q (nodeOf e) ≡ e
 
-  nodes-entries : (ns : List ℕ) → nodesOf (map (entry d q) ns) ≡ ns
+  pub nodes-entries : (ns : List ℕ) → nodesOf (map (entry d q) ns) ≡ ns
   unfolding nodesOf
   nodes-entries [] = refl
   nodes-entries (v ∷ ns) = ap (λ (l : List ℕ). v ∷ l) (nodes-entries ns)

@@ -1,4 +1,5 @@
--- `Distances`: what the facts ask of a distance. `Different`: no node twice. `Exact`: facts of an exact list.
+-- `Distances`: what the facts ask of a distance. `Different`: no node twice. `Exact`: facts of an exact list. `Rows`: facts of a build's rows.
 pub mod Distances
 pub mod Different
 pub mod Exact
+pub mod Rows
