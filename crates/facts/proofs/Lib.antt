@@ -1,6 +1,7 @@
 -- `Distances`: the distance of two nodes of a game is symmetric and fit. `Different`: lists that hold no node twice. `Exact`: facts of an exact list.
 -- `Parts`, `Once`, `Rows`: parts put back, steps that keep a row without a node twice, facts of a build's rows.
 -- `WalksLists`: laws of lists that hold no number twice.
+-- `Walks`: what a search leaves, from laws of lists, of the best set, of visits.
 pub mod Distances
 pub mod Different
 pub mod Exact
@@ -8,3 +9,6 @@ pub mod Parts
 pub mod Once
 pub mod Rows
 pub mod WalksLists
+pub mod WalksBest
+pub mod WalksVisits
+pub mod Walks
