@@ -2,6 +2,7 @@
 -- `Parts`, `Once`, `Rows`: parts put back, steps that keep a row without a node twice, facts of a build's rows.
 -- `WalksLists`: laws of lists that hold no number twice.
 -- `Walks`: what a search leaves, from laws of lists, of the best set, of visits.
+-- `Walks`, `WalksCall`: what a search leaves, from laws of lists, of the best set, of visits.
 pub mod Distances
 pub mod Different
 pub mod Exact
@@ -12,3 +13,4 @@ pub mod WalksLists
 pub mod WalksBest
 pub mod WalksVisits
 pub mod Walks
+pub mod WalksCall
