@@ -1,8 +1,6 @@
 -- `Distances`: the distance of two nodes of a game is symmetric and fit. `Different`: lists that hold no node twice. `Exact`: facts of an exact list.
 -- `Parts`, `Once`, `Rows`: parts put back, steps that keep a row without a node twice, facts of a build's rows.
--- `WalksLists`: laws of lists that hold no number twice.
--- `Walks`: what a search leaves, from laws of lists, of the best set, of visits.
--- `Walks`, `WalksCall`: what a search leaves, from laws of lists, of the best set, of visits.
+-- `WalksLists`, `WalksBest`, `WalksVisits`, `Walks`, `WalksCall`: lists, the best set and visits of a search, and what it leaves. `Descents`: facts of a descent.
 pub mod Distances
 pub mod Different
 pub mod Exact
@@ -14,3 +12,4 @@ pub mod WalksBest
 pub mod WalksVisits
 pub mod Walks
 pub mod WalksCall
+pub mod Descents
