@@ -1,7 +1,10 @@
-// The common ground of the refusal tests: junk in lent places, what became of it after a call, and a refusal's numbers in a line.
+// The common ground of the refusal tests: a case's numbers and runs, junk in lent places, what became of it after a call, and the parts of a line.
 ghost use mathlib.Core.Path.{_≡_};
+ghost use Prim.Native.Nat.{_≤_};
 ghost use lib.ListN.{length};
 ghost use Rattle.refusals.specs.Junk.{rising, nextWord, nextFloat, wordsStand, floatsStand};
+use cases::Cursor;
+use cases::Size;
 use libc::STDOUT_FILENO;
 use rules::Refusal;
 
@@ -25,6 +28,55 @@ pub enum Left {
     Untouched,
     Zeroed,
     Written,
+}
+
+/// A number of a case; the largest word stands for the largest.
+pub fn wide(word: u32) -> usize {
+    if word == 0xFFFF_FFFF {
+        return LARGEST;
+    }
+    word as usize
+}
+
+/// The float of a case's bits, a NaN too.
+pub fn float_of(bits: u32) -> f32 {
+    if bits == 0x7FC0_0000 {
+        return nan();
+    }
+    cases::float(bits)
+}
+
+/// Reads a run of words, after its length, to the front of the slice: how many, and the place behind. A run that is longer is a fault.
+pub fn read_run(text: &[u8], c: Cursor, out: &mut [u32]) -> Size
+    ensures { λ r. ⌜ r .value ≤ length (now (out .exit)) ⌝ }
+{
+    let count = cases::read_size(text, c, out.len());
+    let long = count.value;
+    let cursor = cases::read_words(text, count.cursor, &mut out[..long]);
+    Size {
+        value: long,
+        cursor: cursor,
+    }
+}
+
+/// Reads a run of floats by their bits, a NaN's too, as `read_run` reads words.
+pub fn read_lanes(text: &[u8], c: Cursor, out: &mut [f32]) -> Size
+    ensures { λ r. ⌜ r .value ≤ length (now (out .exit)) ⌝ }
+{
+    let count = cases::read_size(text, c, out.len());
+    let long = count.value;
+    let mut cursor = count.cursor;
+    let mut i: usize = 0;
+    while i < long {
+        let w = cases::read_word(text, cursor);
+        out[i] = float_of(w.value);
+        cursor = w.cursor;
+        i += 1;
+    }
+    Size {
+        value: long,
+        cursor: cursor,
+    }
 }
 
 /// Fills lent words: `first`, and one more in each further place.
@@ -198,6 +250,25 @@ pub fn put_left(l: Left) {
         Left::Written => io::write_all(STDOUT_FILENO, b", written\n"),
     }
     ;
+}
+
+/// Prints the first `count` words, each behind a space.
+pub fn print_words(words: &[u32], count: usize) {
+    let mut i: usize = 0;
+    while i < count {
+        if i >= words.len() {
+            return;
+        }
+        put_word(b" ", words[i]);
+        i += 1;
+    }
+}
+
+/// Prints how many cases were passed, and the reader's fault.
+pub fn put_end(passed: u32, c: Cursor) {
+    put_word(b"cases: ", passed);
+    put_word(b", fault: ", c.fault);
+    io::write_all(STDOUT_FILENO, b"\n");
 }
 
 /// A number that is none, for a lane, a query or a threshold.

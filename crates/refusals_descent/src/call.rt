@@ -9,6 +9,8 @@ use rules::IterateAnswer;
 const WORDS: u32 = 0xCD00_0000;
 
 const FLOATS: f32 = 2.5;
+// The distance of an unfilled entry, 0x7F7FFFFF by its bits.
+const EMPTY: f32 = 340282346638528859811704183484516925440.0;
 
 /// Which entry is called, whether the state that it leaves is printed, the numbers, and how long each slice is that it lends.
 pub struct Call {
@@ -26,11 +28,6 @@ pub struct Call {
     pub floats: usize,
 }
 
-// The distance of an unfilled entry.
-fn empty() -> f32 {
-    cases::float(0x7F7F_FFFF)
-}
-
 // Fills the first places, as many as there are.
 fn fill_nodes(words: &mut [u32], count: usize, node: u32) {
     let mut i: usize = 0;
@@ -46,7 +43,7 @@ fn fill_nodes(words: &mut [u32], count: usize, node: u32) {
 fn fill_empty(floats: &mut [f32]) {
     let mut i: usize = 0;
     while i < floats.len() {
-        floats[i] = empty();
+        floats[i] = EMPTY;
         i += 1;
     }
 }
@@ -249,20 +246,8 @@ pub fn called(
     refusals::put_left(left(answer, as_given, words, floats));
 }
 
-// The given state, copied to the places that are lent.
-fn copy_state(given_u: &[u32], given_f: &[f32], state_u: &mut [u32], state_f: &mut [f32]) {
-    if given_u.len() < state_u.len() {
-        return;
-    }
-    if given_f.len() < state_f.len() {
-        return;
-    }
-    buffers::copy_words(state_u.len(), given_u, state_u);
-    buffers::copy_floats(state_f.len(), given_f, state_f);
-}
-
-// The call on a copy of the given state.
-fn on_copy(
+// The call on the parts of given places and of our own that are as long as it says.
+fn cut(
     number: u32,
     c: Call,
     lanes: &[f32],
@@ -274,81 +259,38 @@ fn on_copy(
     words: &mut [u32],
     floats: &mut [f32],
 ) {
-    copy_state(given_u, given_f, state_u, state_f);
-    called(
-        number,
-        c,
-        lanes,
-        draws,
-        given_u,
-        given_f,
-        state_u,
-        state_f,
-        words,
-        floats,
-    );
-}
-
-// The call on parts of our own state that are as long as what is given.
-fn with_state(
-    number: u32,
-    c: Call,
-    lanes: &[f32],
-    draws: &[u32],
-    given_u: &[u32],
-    given_f: &[f32],
-    words: &mut [u32],
-    floats: &mut [f32],
-) {
-    let mut state_u = [0u32; 2098];
-    let mut state_f = [0.0f32; 256];
-    let u_long = cases::least(given_u.len(), state_u.len());
-    let f_long = cases::least(given_f.len(), state_f.len());
-    on_copy(
-        number,
-        c,
-        lanes,
-        draws,
-        given_u,
-        given_f,
-        &mut state_u[..u_long],
-        &mut state_f[..f_long],
-        words,
-        floats,
-    );
-}
-
-// The call on the parts of given places and of our own that are as long as it says.
-fn cut(
-    number: u32,
-    c: Call,
-    lanes: &[f32],
-    draws: &[u32],
-    given_u: &[u32],
-    given_f: &[f32],
-    words: &mut [u32],
-    floats: &mut [f32],
-) {
     let lanes_long = cases::least(c.lanes, lanes.len());
     let draws_long = cases::least(c.draws, draws.len());
-    let u_long = cases::least(c.state_u, given_u.len());
-    let f_long = cases::least(c.state_f, given_f.len());
+    let given_u_long = cases::least(c.state_u, given_u.len());
+    let given_f_long = cases::least(c.state_f, given_f.len());
+    let state_u_long = cases::least(c.state_u, state_u.len());
+    let state_f_long = cases::least(c.state_f, state_f.len());
     let words_long = cases::least(c.words, words.len());
     let floats_long = cases::least(c.floats, floats.len());
-    with_state(
+    called(
         number,
         c,
         &lanes[..lanes_long],
         &draws[..draws_long],
-        &given_u[..u_long],
-        &given_f[..f_long],
+        &given_u[..given_u_long],
+        &given_f[..given_f_long],
+        &mut state_u[..state_u_long],
+        &mut state_f[..state_f_long],
         &mut words[..words_long],
         &mut floats[..floats_long],
     );
 }
 
-/// A call on given lanes and a given state, and on scratch of our own; the draws are 6, 7, 8 and so on.
-pub fn lend(number: u32, c: Call, lanes: &[f32], given_u: &[u32], given_f: &[f32]) {
+/// A call on given lanes and a state, whose twin is kept, and on scratch of our own; the draws are 6, 7, 8 and so on.
+pub fn lend(
+    number: u32,
+    c: Call,
+    lanes: &[f32],
+    given_u: &[u32],
+    given_f: &[f32],
+    state_u: &mut [u32],
+    state_f: &mut [f32],
+) {
     let mut draws = [0u32; 513];
     let mut words = [0u32; 8192];
     let mut floats = [0.0f32; 8192];
@@ -360,6 +302,8 @@ pub fn lend(number: u32, c: Call, lanes: &[f32], given_u: &[u32], given_f: &[f32
         &draws,
         given_u,
         given_f,
+        state_u,
+        state_f,
         &mut words,
         &mut floats,
     );

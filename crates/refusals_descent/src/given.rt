@@ -1,10 +1,6 @@
 // The calls of a list: their numbers, their lanes, and what is changed in their state.
 use crate::call::Call;
 use cases::Cursor;
-use refusals::LARGEST;
-
-// The bits that stand for a number that is none.
-const NAN: u32 = 0x7FC0_0000;
 
 /// A call of the list, and the place of its lanes.
 pub struct Read {
@@ -12,35 +8,20 @@ pub struct Read {
     pub cursor: Cursor,
 }
 
-// A number of a call; 4294967295 stands for the largest that there is.
-fn size_of(word: u32) -> usize {
-    if word == 4294967295 {
-        return LARGEST;
-    }
-    word as usize
-}
-
-fn float_of(bits: u32) -> f32 {
-    if bits == NAN {
-        return refusals::nan();
-    }
-    cases::float(bits)
-}
-
 fn call_of(xs: [u32; 12]) -> Call {
     Call {
         begins: xs[0] == 1,
         shown: xs[1] == 1,
-        dimension: size_of(xs[2]),
-        n: size_of(xs[3]),
-        k: size_of(xs[4]),
-        s: size_of(xs[5]),
-        lanes: size_of(xs[6]),
-        draws: size_of(xs[7]),
-        state_u: size_of(xs[8]),
-        state_f: size_of(xs[9]),
-        words: size_of(xs[10]),
-        floats: size_of(xs[11]),
+        dimension: refusals::wide(xs[2]),
+        n: refusals::wide(xs[3]),
+        k: refusals::wide(xs[4]),
+        s: refusals::wide(xs[5]),
+        lanes: refusals::wide(xs[6]),
+        draws: refusals::wide(xs[7]),
+        state_u: refusals::wide(xs[8]),
+        state_f: refusals::wide(xs[9]),
+        words: refusals::wide(xs[10]),
+        floats: refusals::wide(xs[11]),
     }
 }
 
@@ -53,23 +34,6 @@ pub fn read_call(text: &[u8], c: Cursor) -> Read {
         call: call_of(xs),
         cursor: cursor,
     }
-}
-
-/// Reads lanes by their bits, after their number, to the front of the slice.
-pub fn read_lanes(text: &[u8], c: Cursor, lanes: &mut [f32]) -> Cursor {
-    let count = cases::read_size(text, c, 256);
-    let mut cursor = count.cursor;
-    let mut i: usize = 0;
-    while i < count.value {
-        if lanes.len() <= i {
-            return cursor;
-        }
-        let w = cases::read_word(text, cursor);
-        lanes[i] = float_of(w.value);
-        cursor = w.cursor;
-        i += 1;
-    }
-    cursor
 }
 
 // Fills `count` words from `from` on, as far as they go.
@@ -90,7 +54,7 @@ fn fill_words(words: &mut [u32], from: u32, count: u32, word: u32) {
 fn put_float(floats: &mut [f32], at: u32, bits: u32) {
     let place = at as usize;
     if place < floats.len() {
-        floats[place] = float_of(bits);
+        floats[place] = refusals::float_of(bits);
     }
 }
 

@@ -9,11 +9,21 @@ fn one_call(text: &[u8], c: Cursor, number: u32) -> Cursor {
     let mut lanes = [0.0f32; 256];
     let mut words = [0u32; 2098];
     let mut floats = [0.0f32; 256];
-    let a = given::read_lanes(text, read.cursor, &mut lanes);
+    let a = refusals::read_lanes(text, read.cursor, &mut lanes);
     call::write_state(read.call, &mut words, &mut floats);
-    let b = given::harm_words(text, a, &mut words);
+    let b = given::harm_words(text, a.cursor, &mut words);
     let behind = given::harm_floats(text, b, &mut floats);
-    call::lend(number, read.call, &lanes, &words, &floats);
+    let given_u = words;
+    let given_f = floats;
+    call::lend(
+        number,
+        read.call,
+        &lanes,
+        &given_u,
+        &given_f,
+        &mut words,
+        &mut floats,
+    );
     behind
 }
 

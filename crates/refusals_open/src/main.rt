@@ -5,131 +5,49 @@ use cases::Cursor;
 
 mod call;
 
-// A case's numbers and lengths, and the place behind them.
-struct Numbers {
-    lent: Call,
-    cursor: Cursor,
-}
-
-// An entry, and the place behind it.
-struct Placed {
-    entry: Entry,
-    cursor: Cursor,
-}
-
-fn read_numbers(text: &[u8], c: Cursor) -> Numbers {
-    let dimension = cases::read_word(text, c);
-    let n = cases::read_word(text, dimension.cursor);
-    let k = cases::read_word(text, n.cursor);
-    let nodes = cases::read_word(text, k.cursor);
-    let dists = cases::read_word(text, nodes.cursor);
-    let words = cases::read_word(text, dists.cursor);
-    let floats = cases::read_word(text, words.cursor);
-    let scratch_u = cases::read_word(text, floats.cursor);
-    let scratch_f = cases::read_word(text, scratch_u.cursor);
-    let cursor = scratch_f.cursor;
-    Numbers {
-        lent: Call {
-            dimension: relays::wide(dimension.value),
-            n: relays::wide(n.value),
-            k: relays::wide(k.value),
-            nodes: relays::wide(nodes.value),
-            dists: relays::wide(dists.value),
-            words: relays::wide(words.value),
-            floats: relays::wide(floats.value),
-            scratch_u: relays::wide(scratch_u.value),
-            scratch_f: relays::wide(scratch_f.value),
-        },
-        cursor: cursor,
+fn call_of(xs: [u32; 15]) -> Call {
+    Call {
+        dimension: refusals::wide(xs[0]),
+        n: refusals::wide(xs[1]),
+        k: refusals::wide(xs[2]),
+        nodes: refusals::wide(xs[3]),
+        dists: refusals::wide(xs[4]),
+        words: refusals::wide(xs[5]),
+        floats: refusals::wide(xs[6]),
+        scratch_u: refusals::wide(xs[7]),
+        scratch_f: refusals::wide(xs[8]),
     }
 }
 
-fn read_entry(text: &[u8], c: Cursor) -> Placed {
-    let at = cases::read_word(text, c);
-    let node = cases::read_word(text, at.cursor);
-    let bits = cases::read_word(text, node.cursor);
-    let cursor = bits.cursor;
-    Placed {
-        entry: Entry {
-            at: relays::wide(at.value),
-            node: node.value,
-            dist: relays::float_of(bits.value),
-        },
-        cursor: cursor,
+fn entry_of(at: u32, node: u32, bits: u32) -> Entry {
+    Entry {
+        at: refusals::wide(at),
+        node: node,
+        dist: refusals::float_of(bits),
     }
 }
 
-// Fills the slice with the next numbers, as the bits of floats, a NaN's too.
-fn read_lanes(text: &[u8], c: Cursor, lanes: &mut [f32]) -> Cursor {
-    let mut i: usize = 0;
-    let mut cursor = c;
-    while i < lanes.len() {
-        let w = cases::read_word(text, cursor);
-        lanes[i] = relays::float_of(w.value);
-        cursor = w.cursor;
-        i += 1;
-    }
-    cursor
-}
-
-// The case's jobs, read into a slice of their length, and the call.
-fn with_jobs(
-    text: &[u8],
-    c: Cursor,
-    number: u32,
-    lent: Call,
-    e: Entry,
-    f: Entry,
-    lanes: &[f32],
-    jobs: &mut [u32],
-) -> Cursor {
-    let cursor = cases::read_words(text, c, jobs);
-    call::lend(number, lent, lanes, jobs, e, f);
-    cursor
-}
-
-// The case's lanes, read into a slice of their length.
-fn with_lanes(
-    text: &[u8],
-    c: Cursor,
-    number: u32,
-    lent: Call,
-    e: Entry,
-    f: Entry,
-    lanes: &mut [f32],
-) -> Cursor {
+// A case: its numbers and two entries, then lanes and jobs, each after their number.
+fn one_case(text: &[u8], c: Cursor, number: u32) -> Cursor {
+    let mut xs = [0u32; 15];
+    let mut lanes = [0.0f32; 1025];
     let mut jobs = [0u32; 130];
-    let cursor = read_lanes(text, c, lanes);
-    let count = cases::read_size(text, cursor, 130);
-    let long = count.value;
-    with_jobs(
-        text,
-        count.cursor,
+    let numbers = cases::read_words(text, c, &mut xs);
+    let l = refusals::read_lanes(text, numbers, &mut lanes);
+    let j = refusals::read_run(text, l.cursor, &mut jobs);
+    let lanes_long = l.value;
+    let jobs_long = j.value;
+    let e = entry_of(xs[9], xs[10], xs[11]);
+    let f = entry_of(xs[12], xs[13], xs[14]);
+    call::lend(
         number,
-        lent,
+        call_of(xs),
+        &lanes[..lanes_long],
+        &jobs[..jobs_long],
         e,
         f,
-        lanes,
-        &mut jobs[..long],
-    )
-}
-
-fn one_case(text: &[u8], c: Cursor, number: u32) -> Cursor {
-    let mut lanes = [0.0f32; 1025];
-    let numbers = read_numbers(text, c);
-    let e = read_entry(text, numbers.cursor);
-    let f = read_entry(text, e.cursor);
-    let count = cases::read_size(text, f.cursor, 1025);
-    let long = count.value;
-    with_lanes(
-        text,
-        count.cursor,
-        number,
-        numbers.lent,
-        e.entry,
-        f.entry,
-        &mut lanes[..long],
-    )
+    );
+    j.cursor
 }
 
 // A proved loop has to end: it counts its turns down, from more cases than a list has.
@@ -141,7 +59,7 @@ fn all_cases(text: &[u8]) {
         let case = replays::next_case(text, cursor, passed);
         let behind = case.cursor;
         if case.kind == 0 {
-            relays::put_end(passed, behind);
+            refusals::put_end(passed, behind);
             return;
         }
         passed = std::num::wrapping_add_u32(passed, 1);

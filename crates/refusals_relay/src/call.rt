@@ -91,10 +91,10 @@ fn make(s: State, words: &mut [u32], floats: &mut [f32]) {
 }
 
 fn same(words: &[u32], floats: &[f32], twin_words: &[u32], twin_floats: &[f32]) -> Left {
-    if !relays::same_words(words, twin_words) {
+    if !states::same_words(words, twin_words) {
         return Left::Written;
     }
-    if !relays::same_floats(floats, twin_floats) {
+    if !states::same_floats(floats, twin_floats) {
         return Left::Written;
     }
     Left::Untouched
@@ -181,7 +181,7 @@ fn closed(
     match answer {
         Answer::Done => {
             io::write_all(STDOUT_FILENO, b": reports");
-            relays::print_words(reports, 8);
+            refusals::print_words(reports, 8);
             refusals::put_left(left_done(reports));
         }
         Answer::Refused(r) => {

@@ -5,65 +5,29 @@ use cases::Cursor;
 
 mod call;
 
-// A case's numbers and lengths, and the place behind them.
-struct Numbers {
-    lent: Lent,
-    cursor: Cursor,
-}
-
-// A case's state, and the place behind it.
-struct Damage {
-    state: State,
-    cursor: Cursor,
-}
-
-fn read_numbers(text: &[u8], c: Cursor) -> Numbers {
-    let n = cases::read_word(text, c);
-    let k = cases::read_word(text, n.cursor);
-    let job = cases::read_word(text, k.cursor);
-    let words = cases::read_word(text, job.cursor);
-    let floats = cases::read_word(text, words.cursor);
-    let nodes = cases::read_word(text, floats.cursor);
-    let dists = cases::read_word(text, nodes.cursor);
-    let reports = cases::read_word(text, dists.cursor);
-    let cursor = reports.cursor;
-    Numbers {
-        lent: Lent {
-            n: relays::wide(n.value),
-            k: relays::wide(k.value),
-            job: relays::wide(job.value),
-            words: relays::wide(words.value),
-            floats: relays::wide(floats.value),
-            nodes: relays::wide(nodes.value),
-            dists: relays::wide(dists.value),
-            reports: relays::wide(reports.value),
-        },
-        cursor: cursor,
+fn lent_of(xs: [u32; 16]) -> Lent {
+    Lent {
+        n: refusals::wide(xs[0]),
+        k: refusals::wide(xs[1]),
+        job: refusals::wide(xs[2]),
+        words: refusals::wide(xs[3]),
+        floats: refusals::wide(xs[4]),
+        nodes: refusals::wide(xs[5]),
+        dists: refusals::wide(xs[6]),
+        reports: refusals::wide(xs[7]),
     }
 }
 
-fn read_damage(text: &[u8], c: Cursor) -> Damage {
-    let first = cases::read_word(text, c);
-    let rest = cases::read_word(text, first.cursor);
-    let at = cases::read_word(text, rest.cursor);
-    let word = cases::read_word(text, at.cursor);
-    let also = cases::read_word(text, word.cursor);
-    let other = cases::read_word(text, also.cursor);
-    let float_at = cases::read_word(text, other.cursor);
-    let float = cases::read_word(text, float_at.cursor);
-    let cursor = float.cursor;
-    Damage {
-        state: State {
-            first: relays::wide(first.value),
-            rest: relays::wide(rest.value),
-            at: relays::wide(at.value),
-            word: word.value,
-            also: relays::wide(also.value),
-            other: other.value,
-            float_at: relays::wide(float_at.value),
-            float: relays::float_of(float.value),
-        },
-        cursor: cursor,
+fn state_of(xs: [u32; 16]) -> State {
+    State {
+        first: refusals::wide(xs[8]),
+        rest: refusals::wide(xs[9]),
+        at: refusals::wide(xs[10]),
+        word: xs[11],
+        also: refusals::wide(xs[12]),
+        other: xs[13],
+        float_at: refusals::wide(xs[14]),
+        float: refusals::float_of(xs[15]),
     }
 }
 
@@ -78,10 +42,9 @@ fn called(number: u32, kind: u32, l: Lent, s: State) {
 }
 
 fn one_case(text: &[u8], c: Cursor, number: u32, kind: u32) -> Cursor {
-    let numbers = read_numbers(text, c);
-    let damage = read_damage(text, numbers.cursor);
-    let cursor = damage.cursor;
-    called(number, kind, numbers.lent, damage.state);
+    let mut xs = [0u32; 16];
+    let cursor = cases::read_words(text, c, &mut xs);
+    called(number, kind, lent_of(xs), state_of(xs));
     cursor
 }
 
@@ -94,7 +57,7 @@ fn all_cases(text: &[u8]) {
         let case = replays::next_case(text, cursor, passed);
         let behind = case.cursor;
         if case.kind == 0 {
-            relays::put_end(passed, behind);
+            refusals::put_end(passed, behind);
             return;
         }
         passed = std::num::wrapping_add_u32(passed, 1);

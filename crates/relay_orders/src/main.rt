@@ -112,10 +112,10 @@ fn differ(a: Lists, b: Lists) -> u32 {
     let dists = a.dists;
     let other_nodes = b.nodes;
     let other_dists = b.dists;
-    if !relays::same_words(&nodes, &other_nodes) {
+    if !states::same_words(&nodes, &other_nodes) {
         return 1;
     }
-    if !relays::same_floats(&dists, &other_dists) {
+    if !states::same_floats(&dists, &other_dists) {
         return 1;
     }
     0
@@ -190,7 +190,7 @@ fn square(name: &[u8], order: &[u32]) {
     io::write_all(STDOUT_FILENO, name);
     put_lists(&nodes, &dists);
     io::write_all(STDOUT_FILENO, b", reports");
-    relays::print_words(&reports, 6);
+    refusals::print_words(&reports, 6);
     io::write_all(STDOUT_FILENO, b"\n");
     if refused != 0 {
         refusals::put_word(b"refused: ", refused);

@@ -1,26 +1,9 @@
-// The common ground of the programs over a relay: the numbers of a case, places inside a state, and floats by their bits.
+// The common ground of the programs over a relay: places inside a state, and floats by their bits.
 use cases::Cursor;
-use libc::STDOUT_FILENO;
 use replays::Compared;
 
 fn sum(a: usize, b: usize) -> usize {
     std::num::wrapping_add_usize(a, b)
-}
-
-/// A number of a case; the largest word stands for the largest.
-pub fn wide(word: u32) -> usize {
-    if word == 0xFFFF_FFFF {
-        return refusals::LARGEST;
-    }
-    word as usize
-}
-
-/// The float of a case's bits, a NaN too.
-pub fn float_of(bits: u32) -> f32 {
-    if bits == 0x7FC0_0000 {
-        return refusals::nan();
-    }
-    cases::float(bits)
 }
 
 /// A word as a place.
@@ -80,36 +63,6 @@ pub fn compare_bits(text: &[u8], c: Cursor, ours: &[f32]) -> Compared {
     }
 }
 
-/// Whether two slices hold the same words.
-pub fn same_words(a: &[u32], b: &[u32]) -> bool {
-    if a.len() != b.len() {
-        return false;
-    }
-    let mut i: usize = 0;
-    while i < a.len() {
-        if a[i] != b[i] {
-            return false;
-        }
-        i += 1;
-    }
-    true
-}
-
-/// Whether two slices hold the same floats, bit for bit but for what a NaN is.
-pub fn same_floats(a: &[f32], b: &[f32]) -> bool {
-    if a.len() != b.len() {
-        return false;
-    }
-    let mut i: usize = 0;
-    while i < a.len() {
-        if bits_of(a[i]) != bits_of(b[i]) {
-            return false;
-        }
-        i += 1;
-    }
-    true
-}
-
 /// Puts a word at a place; a place behind the end changes nothing.
 pub fn put_word(words: &mut [u32], at: usize, word: u32) {
     if at < words.len() {
@@ -122,23 +75,4 @@ pub fn put_float(floats: &mut [f32], at: usize, float: f32) {
     if at < floats.len() {
         floats[at] = float;
     }
-}
-
-/// Prints the first `count` words, each behind a space.
-pub fn print_words(words: &[u32], count: usize) {
-    let mut i: usize = 0;
-    while i < count {
-        if i >= words.len() {
-            return;
-        }
-        refusals::put_word(b" ", words[i]);
-        i += 1;
-    }
-}
-
-/// Prints how many cases were passed, and the reader's fault.
-pub fn put_end(passed: u32, c: Cursor) {
-    refusals::put_word(b"cases: ", passed);
-    refusals::put_word(b", fault: ", c.fault);
-    io::write_all(STDOUT_FILENO, b"\n");
 }

@@ -23,38 +23,62 @@ least-requires-5 c κs = search needs
 least-requires-6 : tie.Need-least-requires-6
 least-requires-6 c κs = search needs
 
-slice-aggregate-with-state : tie.Need-slice-aggregate-with-state
-slice-aggregate-with-state c = simp length-take (omega arith)
+least-requires-7 : tie.Need-least-requires-7
+least-requires-7 c κs = search needs
 
-slice-aggregate-with-state-2 : tie.Need-slice-aggregate-with-state-2
-slice-aggregate-with-state-2 c = simp length-take (omega arith)
+least-requires-8 : tie.Need-least-requires-8
+least-requires-8 c κs = search needs
 
-slice-aggregate-with-state-3 : tie.Need-slice-aggregate-with-state-3
-slice-aggregate-with-state-3 c = simp length-take (omega arith)
+slice-aggregate-called : tie.Need-slice-aggregate-called
+slice-aggregate-called c = simp length-take (omega arith)
 
-slice-aggregate-with-state-4 : tie.Need-slice-aggregate-with-state-4
-slice-aggregate-with-state-4 c = simp length-take (omega arith)
+slice-aggregate-called-2 : tie.Need-slice-aggregate-called-2
+slice-aggregate-called-2 c = simp length-take (omega arith)
 
-slice-relend-prefix-with-state : tie.Need-slice-relend-prefix-with-state
-slice-relend-prefix-with-state c = search needs
+slice-aggregate-called-3 : tie.Need-slice-aggregate-called-3
+slice-aggregate-called-3 c = simp length-take (omega arith)
 
-slice-aggregate-with-state-5 : tie.Need-slice-aggregate-with-state-5
-slice-aggregate-with-state-5 c = simp length-take (omega arith)
+slice-aggregate-called-4 : tie.Need-slice-aggregate-called-4
+slice-aggregate-called-4 c = simp length-take (omega arith)
 
-slice-relend-prefix-with-state-2 : tie.Need-slice-relend-prefix-with-state-2
-slice-relend-prefix-with-state-2 c = search needs
+slice-relend-prefix-called : tie.Need-slice-relend-prefix-called
+slice-relend-prefix-called c = search needs
 
-slice-aggregate-with-state-6 : tie.Need-slice-aggregate-with-state-6
-slice-aggregate-with-state-6 c = simp length-take (omega arith)
+slice-aggregate-called-5 : tie.Need-slice-aggregate-called-5
+slice-aggregate-called-5 c = simp length-take (omega arith)
 
-with-state-requires : tie.Need-with-state-requires
-with-state-requires c κs = search needs
+slice-relend-prefix-called-2 : tie.Need-slice-relend-prefix-called-2
+slice-relend-prefix-called-2 c = search needs
+
+slice-aggregate-called-6 : tie.Need-slice-aggregate-called-6
+slice-aggregate-called-6 c = simp length-take (omega arith)
+
+slice-relend-prefix-called-3 : tie.Need-slice-relend-prefix-called-3
+slice-relend-prefix-called-3 c = search needs
+
+slice-aggregate-called-7 : tie.Need-slice-aggregate-called-7
+slice-aggregate-called-7 c = simp length-take (omega arith)
+
+slice-relend-prefix-called-4 : tie.Need-slice-relend-prefix-called-4
+slice-relend-prefix-called-4 c = search needs
+
+slice-aggregate-called-8 : tie.Need-slice-aggregate-called-8
+slice-aggregate-called-8 c = simp length-take (omega arith)
+
+called-requires : tie.Need-called-requires
+called-requires c κs = search needs
 
 same-length : tie.Need-same-length
 same-length c = search needs
 
 same-length-2 : tie.Need-same-length-2
 same-length-2 c = search needs
+
+same-length-3 : tie.Need-same-length-3
+same-length-3 c = search needs
+
+same-length-4 : tie.Need-same-length-4
+same-length-4 c = search needs
 
 returns : tie.Need-returns
 returns c = search needs
@@ -69,15 +93,23 @@ cut-spec =
     least-requires-4
     least-requires-5
     least-requires-6
-    slice-aggregate-with-state
-    slice-aggregate-with-state-2
-    slice-aggregate-with-state-3
-    slice-aggregate-with-state-4
-    slice-relend-prefix-with-state
-    slice-aggregate-with-state-5
-    slice-relend-prefix-with-state-2
-    slice-aggregate-with-state-6
-    with-state-requires
+    least-requires-7
+    least-requires-8
+    slice-aggregate-called
+    slice-aggregate-called-2
+    slice-aggregate-called-3
+    slice-aggregate-called-4
+    slice-relend-prefix-called
+    slice-aggregate-called-5
+    slice-relend-prefix-called-2
+    slice-aggregate-called-6
+    slice-relend-prefix-called-3
+    slice-aggregate-called-7
+    slice-relend-prefix-called-4
+    slice-aggregate-called-8
+    called-requires
     same-length
     same-length-2
+    same-length-3
+    same-length-4
     returns)

@@ -1,8 +1,7 @@
 -- `refusals_descent::call::fill_empty` is safe and ends: the slice keeps its length. Assumes nothing.
-use mathlib.Core.Path.{_≡_, refl}
+use mathlib.Core.Path.{_≡_}
 use Prim.Native.Nat.{_-_}
-use native.Mathlib.Omega.{arith}
-use lib.ListN.{length, length-set}
+use lib.ListN.{length}
 use borrow.Author.Needs.{needs}
 use Rattle.refusals_descent.proofs.call.fill_empty.Statement.{statement}
 use Rattle.refusals_descent.proofs.call.fill_empty.Tie as tie
@@ -11,13 +10,10 @@ abbrev Inv-loop : tie.InvT-loop
 Inv-loop floats₀ i₀ floats i = length floats ≡ length floats₀
 
 abbrev μ-loop : tie.MeasureT-loop
-μ-loop floats₀ i₀ floats i = length floats - i
+μ-loop floats₀ i₀ floats i = length floats₀ - i
 
 loop-holds : tie.Need-loop-holds Inv-loop μ-loop
-loop-holds c = refl
-
-empty-requires : tie.Need-empty-requires Inv-loop μ-loop
-empty-requires c κs = search needs
+loop-holds c = search needs
 
 mul-floats : tie.Need-mul-floats Inv-loop μ-loop
 mul-floats c = search needs
@@ -29,13 +25,13 @@ add-i : tie.Need-add-i Inv-loop μ-loop
 add-i c = search needs
 
 loop-less : tie.Need-loop-less Inv-loop μ-loop
-loop-less c = simp length-set (omega arith)
+loop-less c = search needs
 
 loop-again : tie.Need-loop-again Inv-loop μ-loop
-loop-again c = simp length-set (c .before .before .loop .inv)
+loop-again c = search needs
 
 same-length : tie.Need-same-length Inv-loop μ-loop
-same-length c = c .before .loop .inv
+same-length c = search needs
 
 returns : tie.Need-returns Inv-loop μ-loop
 returns c = search needs
@@ -47,7 +43,6 @@ fill-empty-spec =
     Inv-loop
     μ-loop
     loop-holds
-    empty-requires
     mul-floats
     slice-write-floats
     add-i

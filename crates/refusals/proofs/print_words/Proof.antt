@@ -1,8 +1,8 @@
--- `relays::print_words` is safe and ends. Assumes nothing.
+-- `refusals::print_words` is safe and ends. Assumes nothing.
 use Prim.Native.Nat.{_-_}
 use borrow.Author.Needs.{needs}
-use Rattle.relays.proofs.print_words.Statement.{statement}
-use Rattle.relays.proofs.print_words.Tie as tie
+use Rattle.refusals.proofs.print_words.Statement.{statement}
+use Rattle.refusals.proofs.print_words.Tie as tie
 
 abbrev Inv-loop : tie.InvT-loop
 Inv-loop words count i₀ t4 i = Unit {0}

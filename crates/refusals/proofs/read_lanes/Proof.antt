@@ -1,16 +1,20 @@
--- `refusals_open::read_lanes` is safe and ends: the slice keeps its length. Assumes nothing.
-use Prim.Native.Nat.{_-_}
-use lib.ListN.{length}
-use mathlib.Core.Path.{_≡_}
+-- `refusals::read_lanes` meets its contract: the slice keeps its length, which the run's is within. Assumes nothing.
+use mathlib.Core.Path.{_≡_, refl}
+use Prim.Native.Nat.{_-_, _≤_}
+use native.Mathlib.Omega.{arith}
+use lib.ListN.{length, length-set}
 use borrow.Author.Needs.{needs}
-use Rattle.refusals_open.proofs.read_lanes.Statement.{statement}
-use Rattle.refusals_open.proofs.read_lanes.Tie as tie
+use Rattle.refusals.proofs.read_lanes.Statement.{statement}
+use Rattle.refusals.proofs.read_lanes.Tie as tie
 
 abbrev Inv-loop : tie.InvT-loop
-Inv-loop text lanes₀ i₀ cursor₀ lanes i cursor = length lanes ≡ length lanes₀
+Inv-loop text out₀ long cursor₀ i₀ out cursor i = (long ≤ length out₀) × (length out ≡ length out₀)
 
 abbrev μ-loop : tie.MeasureT-loop
-μ-loop text lanes₀ i₀ cursor₀ lanes i cursor = length lanes₀ - i
+μ-loop text out₀ long cursor₀ i₀ out cursor i = long - i
+
+read-size-requires : tie.Need-read-size-requires Inv-loop μ-loop
+read-size-requires c κs = search needs
 
 loop-holds : tie.Need-loop-holds Inv-loop μ-loop
 loop-holds c = search needs
@@ -21,11 +25,11 @@ read-word-requires c κs = search needs
 float-of-requires : tie.Need-float-of-requires Inv-loop μ-loop
 float-of-requires c κs = search needs
 
-mul-lanes : tie.Need-mul-lanes Inv-loop μ-loop
-mul-lanes c = search needs
+mul-out : tie.Need-mul-out Inv-loop μ-loop
+mul-out c = search needs
 
-slice-write-lanes : tie.Need-slice-write-lanes Inv-loop μ-loop
-slice-write-lanes c = search needs
+slice-write-out : tie.Need-slice-write-out Inv-loop μ-loop
+slice-write-out c = search needs
 
 add-i : tie.Need-add-i Inv-loop μ-loop
 add-i c = search needs
@@ -48,11 +52,12 @@ read-lanes-spec =
     (tie.spec
     Inv-loop
     μ-loop
+    read-size-requires
     loop-holds
     read-word-requires
     float-of-requires
-    mul-lanes
-    slice-write-lanes
+    mul-out
+    slice-write-out
     add-i
     loop-less
     loop-again
