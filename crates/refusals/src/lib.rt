@@ -8,9 +8,6 @@ use cases::Size;
 use libc::STDOUT_FILENO;
 use rules::Refusal;
 
-/// The largest number.
-pub const LARGEST: usize = 18446744073709551615;
-
 // What the first place of each scratch slice holds before a call; each further place holds one more.
 const WORDS: u32 = 0xEF00_0000;
 
@@ -33,7 +30,7 @@ pub enum Left {
 /// A number of a case; the largest word stands for the largest.
 pub fn wide(word: u32) -> usize {
     if word == 0xFFFF_FFFF {
-        return LARGEST;
+        return 18446744073709551615;
     }
     word as usize
 }
@@ -41,7 +38,8 @@ pub fn wide(word: u32) -> usize {
 /// The float of a case's bits, a NaN too.
 pub fn float_of(bits: u32) -> f32 {
     if bits == 0x7FC0_0000 {
-        return nan();
+        let zero = 0.0f32;
+        return zero / zero;
     }
     cases::float(bits)
 }
@@ -269,10 +267,4 @@ pub fn put_end(passed: u32, c: Cursor) {
     put_word(b"cases: ", passed);
     put_word(b", fault: ", c.fault);
     io::write_all(STDOUT_FILENO, b"\n");
-}
-
-/// A number that is none, for a lane, a query or a threshold.
-pub fn nan() -> f32 {
-    let zero = 0.0f32;
-    zero / zero
 }

@@ -14,34 +14,22 @@ pub struct Call {
     pub params: SsgParams,
     pub dimension: usize,
     pub n: usize,
-    pub lanes: usize,
     pub graph: usize,
     pub words: usize,
     pub floats: usize,
+    pub lanes: usize,
 }
 
-// How many rows of one place, from the second on, hold the node before their own.
-fn behind(graph: &[u32]) -> usize {
-    let mut q: usize = 1;
-    let mut before: u32 = 0;
-    let mut count: usize = 0;
-    while q < graph.len() {
-        if graph[q] == before {
-            count = std::num::wrapping_add_usize(count, 1);
-        }
-        before = std::num::wrapping_add_u32(before, 1);
-        q += 1;
-    }
-    count
-}
-
+// A graph of rows of one place: the first, and whether each further one holds the node before its own.
 fn put_long(graph: &[u32]) {
     if graph.len() == 0 {
         return;
     }
     refusals::put_word(b": ", graph[0]);
-    refusals::put(b", and ", behind(graph));
-    io::write_all(STDOUT_FILENO, b" nodes one behind");
+    if refusals::kept_words(graph, 1, 0xFFFF_FFFF) {
+        refusals::put(b", and ", graph.len() - 1);
+        io::write_all(STDOUT_FILENO, b" nodes one behind");
+    }
 }
 
 fn put_graph(graph: &[u32], index_size: usize) {
@@ -60,16 +48,8 @@ fn left_refused(graph: &[u32], words: &[u32], floats: &[f32]) -> Left {
     refusals::scratch_left(words, floats)
 }
 
-// The line of a call.
-fn told(
-    name: &[u8],
-    answer: Answer,
-    index_size: usize,
-    graph: &[u32],
-    words: &[u32],
-    floats: &[f32],
-) {
-    io::write_all(STDOUT_FILENO, name);
+// The rest of a call's line.
+fn told(answer: Answer, index_size: usize, graph: &[u32], words: &[u32], floats: &[f32]) {
     match answer {
         Answer::Done => {
             put_graph(graph, index_size);
@@ -83,72 +63,28 @@ fn told(
 }
 
 // The call on the slices it lends.
-fn called(
-    name: &[u8],
-    c: Call,
-    lanes: &[f32],
-    graph: &mut [u32],
-    words: &mut [u32],
-    floats: &mut [f32],
-) {
+fn called(c: Call, lanes: &[f32], graph: &mut [u32], words: &mut [u32], floats: &mut [f32]) {
     refusals::fill_words(graph, GRAPH);
     refusals::fill_scratch(words, floats);
     let params = c.params;
     let answer = build::build(params, c.dimension, c.n, lanes, graph, words, floats);
-    told(name, answer, params.index_size, graph, words, floats);
+    told(answer, params.index_size, graph, words, floats);
 }
 
-// The call on the parts of given and of our own places that are as long as it says.
-fn cut(
-    name: &[u8],
-    c: Call,
-    lanes: &[f32],
-    graph: &mut [u32],
-    words: &mut [u32],
-    floats: &mut [f32],
-) {
+/// A call on the first of given lanes and on places of our own, as many as it says.
+pub fn lend(c: Call, lanes: &[f32]) {
+    let mut graph = [0u32; 4096];
+    let mut words = [0u32; 36864];
+    let mut floats = [0.0f32; 36864];
     let lanes_long = cases::least(c.lanes, lanes.len());
-    let graph_long = cases::least(c.graph, graph.len());
-    let words_long = cases::least(c.words, words.len());
-    let floats_long = cases::least(c.floats, floats.len());
+    let graph_long = cases::least(c.graph, 4096);
+    let words_long = cases::least(c.words, 36864);
+    let floats_long = cases::least(c.floats, 36864);
     called(
-        name,
         c,
         &lanes[..lanes_long],
         &mut graph[..graph_long],
         &mut words[..words_long],
         &mut floats[..floats_long],
     );
-}
-
-/// A call on given lanes, on places of our own that are as long as it says.
-pub fn lend(name: &[u8], c: Call, lanes: &[f32]) {
-    let mut graph = [0u32; 4096];
-    let mut words = [0u32; 36864];
-    let mut floats = [0.0f32; 36864];
-    cut(name, c, lanes, &mut graph, &mut words, &mut floats);
-}
-
-/// The numbers and lengths of square C.
-pub fn usual() -> Call {
-    let params = SsgParams::default()
-        .init_k(2)
-        .index_size(2)
-        .neighbor_neighbor_size(10)
-        .threshold(0.5);
-    Call {
-        params: params,
-        dimension: 1,
-        n: 4,
-        lanes: 4,
-        graph: 8,
-        words: 4160,
-        floats: 4160,
-    }
-}
-
-/// A call on the settled squares' lanes, with a place more.
-pub fn as_c(name: &[u8], c: Call) {
-    let lanes = [0.0f32, 1.0, 3.0, 7.0, 15.0];
-    lend(name, c, &lanes);
 }

@@ -1,9 +1,9 @@
--- `refusals_build::call::cut` is safe: each part is as long as it says. Assumes nothing.
+-- `refusals_build::call::lend` is safe: each part is as long as it says. Assumes nothing.
 use native.Mathlib.Omega.{arith}
 use lib.ListN.{length-take}
 use borrow.Author.Needs.{needs}
-use Rattle.refusals_build.proofs.call.cut.Statement.{statement}
-use Rattle.refusals_build.proofs.call.cut.Tie as tie
+use Rattle.refusals_build.proofs.call.lend.Statement.{statement}
+use Rattle.refusals_build.proofs.call.lend.Tie as tie
 
 least-requires : tie.Need-least-requires
 least-requires c κs = search needs
@@ -20,20 +20,20 @@ least-requires-4 c κs = search needs
 slice-aggregate-called : tie.Need-slice-aggregate-called
 slice-aggregate-called c = simp length-take (omega arith)
 
-slice-relend-prefix-called : tie.Need-slice-relend-prefix-called
-slice-relend-prefix-called c = search needs
+array-borrow-prefix-graph : tie.Need-array-borrow-prefix-graph
+array-borrow-prefix-graph c = search needs
 
 slice-aggregate-called-2 : tie.Need-slice-aggregate-called-2
 slice-aggregate-called-2 c = simp length-take (omega arith)
 
-slice-relend-prefix-called-2 : tie.Need-slice-relend-prefix-called-2
-slice-relend-prefix-called-2 c = search needs
+array-borrow-prefix-words : tie.Need-array-borrow-prefix-words
+array-borrow-prefix-words c = search needs
 
 slice-aggregate-called-3 : tie.Need-slice-aggregate-called-3
 slice-aggregate-called-3 c = simp length-take (omega arith)
 
-slice-relend-prefix-called-3 : tie.Need-slice-relend-prefix-called-3
-slice-relend-prefix-called-3 c = search needs
+array-borrow-prefix-floats : tie.Need-array-borrow-prefix-floats
+array-borrow-prefix-floats c = search needs
 
 slice-aggregate-called-4 : tie.Need-slice-aggregate-called-4
 slice-aggregate-called-4 c = simp length-take (omega arith)
@@ -41,20 +41,11 @@ slice-aggregate-called-4 c = simp length-take (omega arith)
 called-requires : tie.Need-called-requires
 called-requires c κs = search needs
 
-same-length : tie.Need-same-length
-same-length c = search needs
-
-same-length-2 : tie.Need-same-length-2
-same-length-2 c = search needs
-
-same-length-3 : tie.Need-same-length-3
-same-length-3 c = search needs
-
 returns : tie.Need-returns
 returns c = search needs
 
-pub cut-spec : {M : Type 1} → statement M
-cut-spec =
+pub lend-spec : {M : Type 1} → statement M
+lend-spec =
     tie.close
     (tie.spec
     least-requires
@@ -62,14 +53,11 @@ cut-spec =
     least-requires-3
     least-requires-4
     slice-aggregate-called
-    slice-relend-prefix-called
+    array-borrow-prefix-graph
     slice-aggregate-called-2
-    slice-relend-prefix-called-2
+    array-borrow-prefix-words
     slice-aggregate-called-3
-    slice-relend-prefix-called-3
+    array-borrow-prefix-floats
     slice-aggregate-called-4
     called-requires
-    same-length
-    same-length-2
-    same-length-3
     returns)
