@@ -1,9 +1,9 @@
 -- What the lists of a descent hold, and what an iteration costs. Assumes nothing.
 use mathlib.Core.Path.{_≡_, refl, sym, ap, _∙_, subst}
-use mathlib.Core.Logic.{_⊎_, inl, inr, ⊎-elim}
+use mathlib.Core.Logic.{inl, inr}
 use mathlib.Core.Bool.{Bool, true, false, cond}
 use mathlib.Core.List.{List, [], _∷_}
-use Prim.Native.Nat.{ℕ, zero, suc, _+_, _-_, _≤_, _<_}
+use Prim.Native.Nat.{ℕ, suc, _+_, _-_, _≤_, _<_}
 use native.Mathlib.Omega.{arith}
 use lib.Dec.{eqb}
 use lib.ListN.{length, set, replicate, length-set, length-replicate, getD-replicate}
@@ -12,7 +12,7 @@ use lib.Ieee.{Float}
 use borrow.Author.Tests.{eqb-true, eqb-false}
 use Rattle.rules.specs.declared.Neighbor.{Neighbor}
 use Rattle.rules.specs.Loops.{through}
-use Rattle.rules.specs.Lists.{neighbor, nodeOf, insert}
+use Rattle.rules.specs.Lists.{neighbor, insert}
 use Rattle.rules.specs.Build.{Between}
 use Rattle.rules.specs.Rows.{emptySlot}
 use Rattle.rules.specs.Offers.{unfilled, look, push, measure, pop, offer}
@@ -23,7 +23,7 @@ use Rattle.rules.specs.Calls.{descentRows, iterateRows}
 use Rattle.rules.specs.Distance.{between}
 use Rattle.rules.specs.Places.{listFloats, listsIn}
 use Rattle.rules.specs.DescentPlaces.{descentState, descentIn}
-use Rattle.rules.specs.DescentCall.{DescentLent, DescentLeft, descentKept, descentWritten, beginTable, beginObeys, beginRule, iterateTable, iterateEnds, iterateObeys, iterateRule}
+use Rattle.rules.specs.DescentCall.{DescentLent, descentKept, descentWritten, beginObeys, beginRule, iterateTable, iterateEnds, iterateObeys, iterateRule}
 use Rattle.rules.proofs.Tables.{within}
 use Rattle.relay_kept.proofs.Rows.{all-fail, none-hold}
 use Rattle.neighbor.specs.Holdable.{Holdable}
@@ -32,7 +32,7 @@ use Rattle.lists.specs.All.{All}
 use Rattle.lists.proofs.Laws.{insert-is-perm}
 use Rattle.lists.proofs.Plain.{all-take, all-perm, all-of, all-weaker}
 use Rattle.encoded.specs.Words.{Binary32}
-use Rattle.descent_kept.specs.Formed.{Each, Below, Formed}
+use Rattle.descent_kept.specs.Formed.{Each, Below}
 use Rattle.descent_kept.proofs.Lists.{through-keeps, Inside, passes-inside}
 use Rattle.descent_kept.proofs.Kept.{begun-formed, iterated-formed}
 use Rattle.descent_kept.proofs.Back.{descent-back}

@@ -1,15 +1,17 @@
 -- Laws of lists that hold no node twice, and of whether a list holds a node. Assumes nothing.
 use mathlib.Core.Path.{_≡_, refl, sym, ap, _∙_, subst}
 use mathlib.Core.Bool.{Bool, true, false, not, _&&_, _||_, or-assoc, true≢false}
-use mathlib.Core.List.{List, [], _∷_, _++_, reverse, reverse-cons}
+use mathlib.Core.List.{List, [], _∷_, _++_, reverse, reverse-cons, map-append}
 use Prim.Native.Nat.{ℕ}
 use lib.Dec.{eqb}
 use borrow.Author.Tests.{eqb-true, eqb-false, eq-eqb, ne-eqb, not-true}
+use Rattle.rules.specs.declared.Neighbor.{Neighbor}
 use Rattle.rules.specs.Loops.{has}
+use Rattle.rules.specs.Lists.{nodeOf, nodesOf}
 use Rattle.lists.specs.All.{All}
 use Rattle.lists.specs.Ascending.{Perm, same, next, exchange, chain}
 use Rattle.lists.proofs.Perm.{perm-first, perm-append}
-use Rattle.steps.proofs.Formed.{both, and-join}
+use Rattle.rules.proofs.Tests.{both, together}
 use Rattle.facts.specs.Different.{different}
 
 -- ---- whether a list holds a node
@@ -76,7 +78,7 @@ different-perm (chain p q) = different-perm p ∙ different-perm q
 module _ (x : ℕ) (xs : List ℕ) where
   pub different-new : has x xs ≡ false → different xs ≡ true → different (x ∷ xs) ≡ true
   unfolding different
-  different-new h k = and-join (ap not h) k
+  different-new h k = together (not (has x xs)) (different xs) (ap not h) k
 
   pub different-first : different (x ∷ xs) ≡ true → has x xs ≡ false
   unfolding different
@@ -103,6 +105,12 @@ different-front (x ∷ xs) ys h = different-new x xs (go (has x xs) refl) (diffe
     go : (b : Bool) → has x xs ≡ b → b ≡ false
     go true e = absurd (true≢false (ap (λ (b : Bool). b || has x ys) (sym e) ∙ sym (has-append x xs ys) ∙ different-first x (xs ++ ys) h))
     go false e = refl
+
+-- ---- the nodes of entries
+
+pub nodes-append : (xs ys : List Neighbor) → nodesOf (xs ++ ys) ≡ nodesOf xs ++ nodesOf ys
+unfolding nodesOf
+nodes-append xs ys = map-append nodeOf xs ys
 
 pub perm-reverse : (xs : List ℕ) → Perm xs (reverse xs)
 perm-reverse [] = same

@@ -6,7 +6,7 @@ use Prim.Native.Nat.{ℕ, zero, suc, _<_}
 use native.Mathlib.Omega.{arith}
 use lib.Dec.{eqb}
 use lib.ListN.{take, drop, take-append-drop}
-use borrow.Author.Tests.{eqb-true, eqb-false, eq-eqb, ne-eqb}
+use borrow.Author.Tests.{eqb-true, eqb-false, ne-eqb}
 use Rattle.rules.specs.declared.Neighbor.{Neighbor}
 use Rattle.rules.specs.Loops.{has}
 use Rattle.rules.specs.Distance.{before}
@@ -24,11 +24,13 @@ use Rattle.lists.proofs.Plain.{all-take, all-weaker, all-sort, all-map, all-hol
 use Rattle.encoded.proofs.Rows.{all-drop}
 use Rattle.exact.specs.Exact.{Other}
 use Rattle.exact.proofs.Laws.{others-each, exact-each, length-exact}
-use Rattle.steps.proofs.Formed.{and-join, of-ascending}
+use Rattle.steps.proofs.Formed.{of-ascending}
 use Rattle.facts.specs.Distances.{SymmetricFit}
 use Rattle.facts.specs.Different.{different}
-use Rattle.facts.specs.Exact.{leads, rising, backwards, ExactFacts}
-use Rattle.facts.proofs.Different.{has-append, has-perm, has-each, has-none, different-perm, different-first, different-later, different-last, different-front, perm-reverse}
+use Rattle.facts.specs.Rising.{rising}
+use Rattle.facts.specs.Exact.{backwards, ExactFacts}
+use Rattle.facts.proofs.Different.{has-append, has-perm, has-each, has-none, different-perm, different-last, different-front, perm-reverse}
+use Rattle.facts.proofs.Rising.{rising-of}
 
 -- ---- the others
 
@@ -83,25 +85,6 @@ module _ (d : Between) (q : ℕ) where
   unfolding nodesOf
   nodes-each P [] E X = tt
   nodes-each P (e ∷ es) E X = (subst P (sym (E .0)) (X .0), nodes-each P es (E .1) (X .1))
-
--- ---- strictly
-
-leads-of : (x : Neighbor) (ys : List Neighbor) → Holdable (x .distance) → AllHoldable ys → NoneBefore x ys → Ascending ys → different (nodesOf (x ∷ ys)) ≡ true → leads x ys ≡ true
-unfolding leads nodesOf has
-leads-of x [] X Y n s h = refl
-leads-of x (y ∷ ys) X Y n s h =
-    and-join (go (before x y) refl) (leads-of y ys (Y .0) (Y .1) (s .0) (s .1) (different-later (nodeOf x) (nodesOf (y ∷ ys)) h))
-  where
-    go : (b : Bool) → before x y ≡ b → b ≡ true
-    go true e = refl
-    go false e =
-        let one : nodeOf x ≡ nodeOf y = ap nodeOf (total x y X (Y .0) e (n .0)) in
-        absurd (true≢false (ap (λ (b : Bool). b || has (nodeOf x) (nodesOf ys)) (sym (eq-eqb (nodeOf x) (nodeOf y) one)) ∙ different-first (nodeOf x) (nodesOf (y ∷ ys)) h))
-
-rising-of : (xs : List Neighbor) → AllHoldable xs → Ascending xs → different (nodesOf xs) ≡ true → rising xs ≡ true
-unfolding rising
-rising-of [] X s h = refl
-rising-of (x ∷ xs) X s h = leads-of x xs (X .0) (X .1) (s .0) (s .1) h
 
 -- ---- of an ascending list none of those behind the first k precedes one of these
 

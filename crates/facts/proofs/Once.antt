@@ -1,7 +1,7 @@
 -- Step 3 and an offer keep a row without a node twice, and step 2 begins with none. Assumes nothing.
 use mathlib.Core.Path.{_≡_, refl, sym, ap, _∙_, subst}
 use mathlib.Core.Bool.{Bool, true, false, cond, not, _&&_, _||_}
-use mathlib.Core.List.{List, [], _∷_, _++_, map, map-append, append-nil, append-assoc}
+use mathlib.Core.List.{List, [], _∷_, _++_, map, append-nil, append-assoc}
 use Prim.Native.Nat.{ℕ, suc, _+_, _-_, _≤_, zero-le}
 use native.Mathlib.Omega.{arith}
 use lib.Dec.{leb, ltb, eqb}
@@ -19,7 +19,7 @@ use Rattle.lists.proofs.Perm.{perm-map}
 use Rattle.lists.proofs.Laws.{sort-is-perm}
 use Rattle.descent_kept.proofs.Lists.{through-keeps}
 use Rattle.facts.specs.Different.{different}
-use Rattle.facts.proofs.Different.{different-perm, different-last, different-without, different-front}
+use Rattle.facts.proofs.Different.{different-perm, different-last, different-without, different-front, nodes-append}
 use Rattle.facts.proofs.Exact.{nodes-entries}
 use Rattle.facts.proofs.Parts.{live-marked, live-empty, live-append, live-front, live-all}
 
@@ -27,10 +27,6 @@ abbrev pub Once : List Neighbor → Type 0
 Once es = different (nodesOf es) ≡ true
 
 -- ---- entries one behind the other
-
-nodes-append : (xs ys : List Neighbor) → nodesOf (xs ++ ys) ≡ nodesOf xs ++ nodesOf ys
-unfolding nodesOf
-nodes-append xs ys = map-append nodeOf xs ys
 
 once-front : (xs ys : List Neighbor) → Once (xs ++ ys) → Once xs
 once-front xs ys h = different-front (nodesOf xs) (nodesOf ys) (ap different (sym (nodes-append xs ys)) ∙ h)

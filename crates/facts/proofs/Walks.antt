@@ -1,32 +1,31 @@
 -- What a search that meets no unfit distance leaves: each step of the walk keeps it. Assumes nothing.
 use mathlib.Core.Path.{_≡_, refl, sym, ap, _∙_, subst}
 use mathlib.Core.Logic.{_⊎_, inl, inr}
-use mathlib.Core.Bool.{Bool, true, false, cond, true≢false, _||_}
-use mathlib.Core.List.{List, [], _∷_, append-nil}
+use mathlib.Core.Bool.{Bool, true, false, cond, _||_}
+use mathlib.Core.List.{List, [], append-nil}
 use Prim.Native.Nat.{ℕ, zero, suc, _+_, _≤_, _<_, min}
 use native.Mathlib.Omega.{arith}
-use borrow.Author.Tests.{ltb-true, eq-eqb}
-use lib.Dec.{ltb, eqb}
+use borrow.Author.Tests.{ltb-true}
+use lib.Dec.{ltb}
 use lib.ListN.{length, take, getD, replicate, length-replicate, length-map, length-take}
 use lib.Ieee.{Float, binary32, toBits, lt}
 use Rattle.rules.specs.declared.Distance.{Distance}
 use Rattle.rules.specs.declared.Distance.the-variants.{Fit}
 use Rattle.rules.specs.declared.Neighbor.{Neighbor}
 use Rattle.rules.specs.Loops.{through, has}
-use Rattle.rules.specs.Distance.{before, zero32, queryApart}
+use Rattle.rules.specs.Distance.{zero32, queryApart}
 use Rattle.rules.specs.Lists.{neighbor, nodeOf, nodesOf}
 use Rattle.rules.specs.Rows.{graphRow}
 use Rattle.rules.specs.Search.{Walk, on, Found, Taken, andThen, mark, isSeen, visits, rootsFound, started, farthest, takeThese, rowEnded, expand, walk, searchOf}
 use Rattle.neighbor.specs.Holdable.{Holdable}
 use Rattle.neighbor.proofs.Bits.{bits-lt, holdable-fit}
-use Rattle.neighbor.proofs.Order.{total}
 use Rattle.metrics.proofs.Fitness.{query-fit, query-fits}
 use Rattle.lists.specs.All.{All}
-use Rattle.lists.specs.Ascending.{AllHoldable, NoneBefore, Ascending, Perm}
+use Rattle.lists.specs.Ascending.{Perm}
 use Rattle.lists.proofs.Perm.{perm-length}
 use Rattle.lists.proofs.Plain.{all-at, all-of, all-take, all-perm, all-map, all-weaker}
 use Rattle.lists.proofs.Laws.{ascending-take}
-use Rattle.steps.proofs.Formed.{and-join, of-ascending}
+use Rattle.steps.proofs.Formed.{of-ascending}
 use Rattle.hops.specs.Hops.{flagsOf}
 use Rattle.hops.proofs.Laws.{seen-taken}
 use Rattle.expand.specs.Queue.{ones, AllBelow}
@@ -36,8 +35,10 @@ use Rattle.walk.specs.Walks.{Roots}
 use Rattle.walk.proofs.Marks.{marks-long, marks-count, all-below}
 use Rattle.walk.proofs.Enough.{enough}
 use Rattle.facts.specs.Different.{different}
-use Rattle.facts.specs.Walks.{FitAnswers, precedes, rising, Measured, BestSet, Walked}
-use Rattle.facts.proofs.WalksLists.{or-right, neither, has-perm, all-has, all-in, not-in, different-parts, different-perm, different-append, different-places, different-take, nodes-append}
+use Rattle.facts.specs.Walks.{FitAnswers, Measured, BestSet, Walked}
+use Rattle.facts.proofs.Different.{has-perm, has-each, different-perm, nodes-append}
+use Rattle.facts.proofs.Rising.{rising-of}
+use Rattle.facts.proofs.WalksLists.{or-right, all-in, not-in, different-append, different-places, different-take}
 use Rattle.facts.proofs.WalksBest.{Best, Nearest, Ended, all-back, held, nearest-first, these, these-best, these-queue, these-different, these-once}
 use Rattle.facts.proofs.WalksVisits.{Fresh, Sorted, fresh-visits, sorted-roots}
 
@@ -91,7 +92,7 @@ module _ (apart : ℕ → Distance) (n : ℕ) (fine : Answers apart) where
       (λ (i : ℕ) h. (R .below i h, flag-is n roots (getD roots i 0) (R .below i h) ∙ all-at (λ (v : ℕ). has v roots ≡ true) roots i 0 (all-in roots) h)) in
       let first : All (λ (e : Neighbor). Known n flags (nodeOf e)) (take k sorted) =
       all-take (λ (e : Neighbor). Known n flags (nodeOf e)) k sorted (all-back (Known n flags) nodeOf sorted (all-perm (Known n flags) p known)) in
-      let other : different (nodesOf (take k sorted)) ≡ true = different-take k sorted (different-perm p (different-places roots (R .different))) in
+      let other : different (nodesOf (take k sorted)) ≡ true = different-take k sorted (sym (different-perm p) ∙ different-places roots (R .different)) in
       let near : All (Nearest apart (take k sorted)) (nodesOf sorted) =
       all-map (Nearest apart (take k sorted)) nodeOf sorted (nearest-first apart n fine k sorted some (omega arith) (S .measured) (S .ascends)) in
       record {
@@ -103,7 +104,7 @@ module _ (apart : ℕ → Distance) (n : ℕ) (fine : Answers apart) where
         best = record { long = cut ∙ ap (min k) (sym nodes ∙ sym count); measured = all-take (Measured apart n) k sorted (S .measured); ascends = ascending-take k sorted (S .ascends) };
         best-known = first;
         others = other;
-        nearest = λ (v : ℕ) h e. all-has (Nearest apart (take k sorted)) v (nodesOf sorted) near (sym (has-perm v p) ∙ sym (flag-is n roots v h) ∙ e);
+        nearest = λ (v : ℕ) h e. has-each v (Nearest apart (take k sorted)) (nodesOf sorted) near (sym (has-perm v p) ∙ sym (flag-is n roots v h) ∙ e);
       }
 
   -- ---- a node is expanded
@@ -145,7 +146,7 @@ module _ (apart : ℕ → Distance) (n : ℕ) (fine : Answers apart) where
 
         go : (b : Bool) → has v (nodesOf (f .entries)) ≡ b → (b || isSeen v (s .seen)) ≡ true → Nearest apart (takeThese (f .entries) before-row .best) v
         go true a g =
-            all-has (Nearest apart (takeThese (f .entries) before-row .best)) v (nodesOf (f .entries))
+            has-each v (Nearest apart (takeThese (f .entries) before-row .best)) (nodesOf (f .entries))
             (all-map (Nearest apart (takeThese (f .entries) before-row .best)) nodeOf (f .entries) (ends .found)) a
         go false a g = ends .kept v (S .nearest v h g)
 
@@ -213,29 +214,13 @@ module _ (apart : ℕ → Distance) (n : ℕ) (fine : Answers apart) where
 
 -- ---- the answer
 
-precedes-next : (x : Neighbor) (ys : List Neighbor) → Holdable (x .distance) → AllHoldable ys → NoneBefore x ys → Ascending ys → different (nodeOf x ∷ nodesOf ys) ≡ true → precedes x ys ≡ true
-unfolding precedes nodesOf has
-precedes-next x [] X Y N A d = refl
-precedes-next x (y ∷ ys) X Y N A d =
-    let p = different-parts (nodeOf x) (nodeOf y ∷ nodesOf ys) d in
-    and-join (go (before x y) refl (neither (eqb (nodeOf x) (nodeOf y)) (has (nodeOf x) (nodesOf ys)) (p .0) .0)) (precedes-next y ys (Y .0) (Y .1) (A .0) (A .1) (p .1))
-  where
-    go : (b : Bool) → before x y ≡ b → eqb (nodeOf x) (nodeOf y) ≡ false → b ≡ true
-    go true h e = refl
-    go false h e = absurd (true≢false (sym (eq-eqb (nodeOf x) (nodeOf y) (ap nodeOf (total x y X (Y .0) h (N .0)))) ∙ e))
-
-rises : (xs : List Neighbor) → AllHoldable xs → Ascending xs → different (nodesOf xs) ≡ true → rising xs ≡ true
-unfolding rising nodesOf
-rises [] X A d = refl
-rises (x ∷ xs) X A d = precedes-next x xs (X .0) (X .1) (A .0) (A .1) d
-
 module _ (apart : ℕ → Distance) (n : ℕ) (fit-answers : FitAnswers apart) where
   answer-of : (m : ℕ) (xs : List Neighbor) → Best apart n m xs → different (nodesOf xs) ≡ true → BestSet apart n m xs
   answer-of m xs B d =
       record {
         long = B .long;
         ascends = of-ascending xs (B .ascends);
-        rises = rises xs (held apart n (answers-of fit-answers) xs (B .measured)) (B .ascends) d;
+        rises = rising-of xs (held apart n (answers-of fit-answers) xs (B .measured)) (B .ascends) d;
         different = d;
         measured = B .measured;
       }

@@ -26,7 +26,9 @@ use Rattle.lists.proofs.Plain.{all-append, all-at, all-take, all-perm, all-weak
 use Rattle.expand.proofs.Near.{Near, Answers, best-near, farthest-held}
 use Rattle.facts.specs.Different.{different}
 use Rattle.facts.specs.Walks.{Measured}
-use Rattle.facts.proofs.WalksLists.{neither, or-right, has-append, has-insert, all-in, different-front, different-cut, different-insert, nodes-append}
+use Rattle.rules.proofs.Tests.{neither}
+use Rattle.facts.proofs.Different.{has-append, different-front, nodes-append}
+use Rattle.facts.proofs.WalksLists.{or-right, has-insert, all-in, different-cut, different-insert}
 
 -- a best set of m entries
 pub record Best (apart : ℕ → Distance) (n m : ℕ) (xs : List Neighbor) : Type 0 where

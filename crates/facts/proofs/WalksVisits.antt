@@ -25,7 +25,9 @@ use Rattle.expand.proofs.Near.{Answers}
 use Rattle.expand.proofs.Sound.{ones-mark, mark-long, Whenever, whenever-then}
 use Rattle.facts.specs.Different.{different}
 use Rattle.facts.specs.Walks.{Measured}
-use Rattle.facts.proofs.WalksLists.{neither, has-insert, different-more, different-perm}
+use Rattle.rules.proofs.Tests.{neither}
+use Rattle.facts.proofs.Different.{different-new, different-perm}
+use Rattle.facts.proofs.WalksLists.{has-insert}
 use Rattle.facts.proofs.WalksBest.{held}
 
 seen-mark : (v w : ℕ) (xs : List ℕ) → v < length xs → isSeen v (mark w xs) ≡ (eqb v w || isSeen v xs)
@@ -83,7 +85,7 @@ module _ (apart : ℕ → Distance) (n : ℕ) (fine : Answers apart) where
         measured = measured-insert v x (f .entries) b q (F .measured);
         ascends = ascends-insert v x (f .entries) q (F .measured) (F .ascends);
         unseen = all-perm (λ (u : ℕ). isSeen u before ≡ false) (perm-map nodeOf p) (new .1, F .unseen);
-        others = different-perm (perm-map nodeOf p) (different-more v (nodesOf (f .entries)) (new .0) (F .others));
+        others = sym (different-perm (perm-map nodeOf p)) ∙ different-new v (nodesOf (f .entries)) (new .0) (F .others);
         seen = λ (u : ℕ) h.
             seen-mark u v (f .seen) (omega arith)
             ∙ ap (λ (t : Bool). eqb u v || t) (F .seen u h)

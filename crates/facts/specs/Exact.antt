@@ -1,7 +1,7 @@
 -- What is hoped of an exact list: nearest first when read backwards, no node twice, and truly the nearest. Assumes nothing.
 use mathlib.Core.Path.{_≡_}
-use mathlib.Core.Bool.{Bool, true, false, _&&_}
-use mathlib.Core.List.{List, [], _∷_, map, reverse}
+use mathlib.Core.Bool.{true, false}
+use mathlib.Core.List.{List, map, reverse}
 use Prim.Native.Nat.{ℕ, _-_, _<_, min}
 use lib.ListN.{length}
 use Rattle.rules.specs.declared.Neighbor.{Neighbor}
@@ -10,15 +10,7 @@ use Rattle.rules.specs.Distance.{before}
 use Rattle.rules.specs.Build.{Between, entry, exactList}
 use Rattle.rules.specs.Offers.{ascending}
 use Rattle.facts.specs.Different.{different}
-
--- each entry precedes the next
-unfoldable pub leads : Neighbor → List Neighbor → Bool
-leads x [] = true
-leads x (y ∷ ys) = before x y && leads y ys
-
-unfoldable pub rising : List Neighbor → Bool
-rising [] = true
-rising (x ∷ xs) = leads x xs
+use Rattle.facts.specs.Rising.{rising}
 
 -- "written farthest first": the entries of q's exact list, read backwards
 abbrev pub backwards : Between → ℕ → ℕ → ℕ → List Neighbor

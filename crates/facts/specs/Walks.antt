@@ -1,7 +1,7 @@
 -- What a search that meets no unfit distance leaves, over any distance to the query whose answers are fit. Assumes nothing.
 use mathlib.Core.Path.{_≡_}
-use mathlib.Core.Bool.{Bool, true, _&&_}
-use mathlib.Core.List.{List, [], _∷_}
+use mathlib.Core.Bool.{true}
+use mathlib.Core.List.{List}
 use Prim.Native.Nat.{ℕ, _≤_, _<_, min}
 use lib.Dec.{T}
 use lib.ListN.{length, getD}
@@ -10,27 +10,19 @@ use Rattle.rules.specs.declared.Distance.{Distance}
 use Rattle.rules.specs.declared.Distance.the-variants.{Fit}
 use Rattle.rules.specs.declared.Neighbor.{Neighbor}
 use Rattle.rules.specs.Loops.{has}
-use Rattle.rules.specs.Distance.{fit, before}
+use Rattle.rules.specs.Distance.{fit}
 use Rattle.rules.specs.Lists.{nodeOf, nodesOf}
 use Rattle.rules.specs.Offers.{ascending}
 use Rattle.rules.specs.Search.{Walk, isSeen, farthest}
 use Rattle.lists.specs.All.{All}
 use Rattle.expand.specs.Queue.{ones}
 use Rattle.facts.specs.Different.{different}
+use Rattle.facts.specs.Rising.{rising}
 
 -- a distance to the query: what its answers carry is in binary32, and "its bits, as a whole number, are at most 0x7F7FFFFE"
 pub record FitAnswers (apart : ℕ → Distance) : Type 0 where
   pub single : (v : ℕ) (x : Float) → apart v ≡ Fit x → T (fits binary32 x)
   pub fits : (v : ℕ) (x : Float) → apart v ≡ Fit x → fit x ≡ true
-
--- "Order: by distance, then node number": each entry precedes the next
-unfoldable pub precedes : Neighbor → List Neighbor → Bool
-precedes x [] = true
-precedes x (y ∷ ys) = before x y && precedes y ys
-
-unfoldable pub rising : List Neighbor → Bool
-rising [] = true
-rising (x ∷ xs) = precedes x xs
 
 -- an entry: a node below n, with its distance to the query
 pub record Measured (apart : ℕ → Distance) (n : ℕ) (e : Neighbor) : Type 0 where
