@@ -1,8 +1,9 @@
 -- Laws of the block of eight, and of pairs that are fit. Assumes nothing.
 use mathlib.Core.Path.{_≡_, refl, sym, ap, subst, _∙_}
-use mathlib.Core.Bool.{Bool, true, false, not}
+use mathlib.Core.Bool.{Bool, true, false, not, _&&_}
 use mathlib.Core.List.{List}
-use Prim.Native.Nat.{ℕ, _+_, _-_, _*_, _≤_, _<_}
+use Prim.Native.Nat.{ℕ, zero, suc, _+_, _-_, _*_, _≤_, _<_}
+use native.Mathlib.Numerals.{add-one}
 use native.Mathlib.Omega.{arith}
 use lib.Dec.{T, eqb}
 use lib.ListN.{length, drop, getD, set, replicate, getD-replicate, length-set}
@@ -12,8 +13,9 @@ use lib.Ieee.Compare.{differs-from-itself}
 use borrow.Author.Tests.{lt-ltb, le-ltb, eqb-true, eqb-false}
 use Rattle.rules.specs.Distance.{lane, totalOf, fit, answer, carried, zero32, lanesOf}
 use Rattle.rules.proofs.Loops.{length-ones, getD-ones}
+use Rattle.zeros.specs.Zeros.{allBelow}
 use Rattle.metrics.proofs.Steps.{turn, ended}
-use Rattle.kernels.specs.Eight.{column, held, PutRow, Holds, Laned, Totals, AllFit}
+use Rattle.kernels.specs.Eight.{column, held, PutRow, Holds, Laned, Totals}
 
 -- ---- a column
 
@@ -103,18 +105,24 @@ laning-more {totals} {block} {from} {x} {now} {c} v inv h e =
         let n = eqb-false t c f in
         getD-set-other now c t v nan n ∙ inv .done t (omega arith)
 
--- ---- the first c totals are fit
+-- ---- a test of every place
 
 pub not-not : (b : Bool) → not b ≡ false → b ≡ true
 not-not true e = refl
 not-not false e = sym e
 
-pub fit-more : (totals : List Float) (c : ℕ) → AllFit totals c → fit (getD totals c nan) ≡ true → AllFit totals (c + 1)
-fit-more totals c all h t k = at (eqb t c) refl
+pub all-passed : (p : ℕ → Bool) (i : ℕ) → p i ≡ true → allBelow p i ≡ allBelow p (i + 1)
+unfolding allBelow
+all-passed p i e = rw (add-one, e) (go (allBelow p i))
   where
-    at : (b : Bool) → eqb t c ≡ b → fit (getD totals t nan) ≡ true
-    at true e = rw (eqb-true t c e) h
-    at false e = let n = eqb-false t c e in all t (omega arith)
+    go : (b : Bool) → b ≡ (b && true)
+    go true = refl
+    go false = refl
+
+pub all-same : (p q : ℕ → Bool) (n : ℕ) → ((i : ℕ) → i < n → p i ≡ q i) → allBelow p n ≡ allBelow q n
+unfolding allBelow
+all-same p q zero e = refl
+all-same p q (suc n) e = rw (all-same p q n (λ (i : ℕ) (h : i < n). e i (omega arith)), e n (omega arith))
 
 -- ---- what is carried
 

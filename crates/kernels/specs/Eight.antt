@@ -1,14 +1,15 @@
 -- A block of eight nodes: lane l of the t-th at place 8l + t. Its totals, and pairs that are fit. Assumes nothing.
 use mathlib.Core.Path.{_≡_}
-use mathlib.Core.Bool.{true, false, cond}
+use mathlib.Core.Bool.{Bool, cond, not}
 use mathlib.Core.List.{List, [], _∷_}
-use Prim.Native.Nat.{ℕ, _+_, _-_, _*_, _≤_, _<_}
+use Prim.Native.Nat.{ℕ, _+_, _-_, _*_, _<_}
 use lib.Dec.{ltb}
 use lib.ListN.{length, getD}
 use lib.Ieee.{Float, nan}
 use Rattle.rules.specs.declared.Distance.{Distance}
 use Rattle.rules.specs.Loops.{each}
 use Rattle.rules.specs.Distance.{lane, totalOf, zero32, fit, unfit, lanesOf}
+use Rattle.zeros.specs.Zeros.{allBelow}
 
 -- the first d lanes of the t-th
 unfoldable pub column : ℕ → ℕ → List Float → List Float
@@ -39,10 +40,14 @@ Laned totals block from x c r = (t : ℕ) → t < c → getD r t nan ≡ lane (g
 abbrev pub Totals : List Float → List Float → List Float → Type 0
 Totals x block r = (t : ℕ) → t < 8 → getD r t nan ≡ totalOf zero32 x (column t (length x) block)
 
--- the first c totals are fit
-abbrev pub AllFit : List Float → ℕ → Type 0
-AllFit totals c = (t : ℕ) → t < c → fit (getD totals t nan) ≡ true
+-- each of eight totals is fit
+abbrev pub allFit : List Float → Bool
+allFit totals = allBelow (λ (t : ℕ). fit (getD totals t nan)) 8
 
--- no pair i < j is unfit, of i from lo below hi and j below m
-abbrev pub Clear : (ℕ → ℕ → Distance) → ℕ → ℕ → ℕ → ℕ → Type 0
-Clear apart n lo hi m = (i j : ℕ) → lo ≤ i → i < hi → i < j → j < m → unfit (apart i j) ≡ false
+-- node j is fit with the eight from base on
+unfoldable pub eightFit : (ℕ → ℕ → Distance) → ℕ → ℕ → ℕ → Bool
+eightFit apart n base j = allBelow (λ (t : ℕ). not (unfit (apart j (held n (base + t))))) 8
+
+-- and so is each node from there on
+unfoldable pub blockFit : (ℕ → ℕ → Distance) → ℕ → ℕ → Bool
+blockFit apart n base = allBelow (λ (i : ℕ). eightFit apart n base (base + i)) (n - base)

@@ -7,7 +7,7 @@ ghost use lib.ListN.{length, getD};
 ghost use lib.Ieee.{nan};
 ghost use Rattle.rules.specs.Distance.{lane, fit, answer, carried, nodesApart, unfit, between};
 ghost use Rattle.rules.specs.Refusals.{decide, decisionOf, row10};
-ghost use Rattle.kernels.specs.Eight.{held, Held, Laned, PutRow, Holds, Totals, AllFit, Clear};
+ghost use Rattle.kernels.specs.Eight.{held, Held, Laned, PutRow, Holds, Totals, allFit, blockFit};
 ghost use Rattle.kernels.specs.Four.{Fours, Apart4};
 use rules::Answer;
 use rules::NodeId;
@@ -110,7 +110,7 @@ pub fn totals8(x: &[f32], block: &[f32; 512]) -> [f32; 8]
 
 // Whether each of eight totals is fit.
 fn all_fit(totals: [f32; 8]) -> bool
-    ensures { λ r. ⌜ (r ≡ true → AllFit totals 8) ⌝ }
+    ensures { λ r. ⌜ r ≡ allFit totals ⌝ }
 {
     let mut all = true;
     let mut t = 0usize;
@@ -126,7 +126,7 @@ fn all_fit(totals: [f32; 8]) -> bool
 // Whether the eight nodes from `base` on are fit with every node from there on.
 fn clear(lanes: &[f32], dimension: usize, n: usize, base: usize) -> bool
     requires { ⌜ (length (now lanes) ≡ n * dimension) × (n ≤ 4096) × (dimension ≤ 64) × (base < n) ⌝ }
-    ensures { λ r. ⌜ (r ≡ true → Clear (nodesApart (now (lanes .entry)) dimension) n base (base + 8) n) ⌝ }
+    ensures { λ r. ⌜ r ≡ blockFit (nodesApart (now (lanes .entry)) dimension) n base ⌝ }
 {
     let block = block_of(lanes, dimension, n, base);
     let mut j = base;

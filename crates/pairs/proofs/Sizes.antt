@@ -4,14 +4,12 @@ use mathlib.Core.Bool.{Bool, true, false, _&&_, _||_, Bool·beq, cond, true≢fa
 use mathlib.Core.List.{List, [], _∷_}
 use Prim.Native.Nat.{ℕ, suc, _+_, _-_, _*_, _/_, _^_, _≤_, _<_}
 use native.Mathlib.Nat.{le-trans, le-of-eq, mul-comm, mul-assoc, mul-right-comm, mul-le-mul, mul-le-mul-right, le-of-mul-le-mul-right, mul-pos, mul-one, mul-mul-mul-comm, mul-lt-mul-of-pos-right, lt-of-le-of-lt, add-le-add, div-lt-iff-lt-mul, pow-suc, two-mul, le-refl}
-use native.Mathlib.Numerals.{add-one}
 use native.Mathlib.Omega.{arith}
-use borrow.Author.Tests.{le-leb}
+use borrow.Author.Tests.{le-leb, leb-true, ltb-false, lt-ltb, eq-eqb}
 use lib.Dec.{T, ltb, eqb, ltb→lt, eqb→eq}
 use lib.IntN.{ℤ}
 use lib.Pow.{pow-add, pow-pos, pow-mono, pow-lt}
-use lib.ListN.{length, take, drop, getD, length-take}
-use lib.Seq.{take-suc, take-all}
+use lib.ListN.{length, drop, getD, length-take}
 use lib.Ieee.{Float, nan, inf, fin, binary32, up, down, round, sum, add, sub, neg, mul, le, lt, eq, toBits, ofBits}
 use lib.Ieee as ieee
 use lib.Ieee.Digits.{size-le}
@@ -25,9 +23,16 @@ use Rattle.rules.specs.Refusals.{decide, passed, row10}
 use Rattle.kernels.proofs.Pairs.{all-clear}
 use Rattle.metrics.proofs.Symmetry.{size, size-round, spread, size-sum}
 use Rattle.lists.specs.All.{All}
-use Rattle.lists.proofs.Plain.{all-take, all-append}
+use Rattle.lists.proofs.Plain.{all-take, all-of}
 use Rattle.encoded.proofs.Rows.{all-drop}
-use Rattle.pairs.specs.Within.{Within}
+use Rattle.zeros.proofs.Laws as below
+use Rattle.pairs.specs.Within.{within, allWithin}
+
+-- finite, and at most 2 ^ b in size
+abbrev Within : ℕ → Float → Type 0
+Within b nan = ⊥
+Within b (inf s) = ⊥
+Within b (fin s m e) = m * up e ≤ 2 ^ b * down e
 
 -- a bounded size, and no minus
 abbrev Small : ℕ → Float → Type 0
@@ -231,7 +236,10 @@ module _ (lanes : List Float) (dimension : ℕ) (few : dimension ≤ 64) (small 
 within-cross : (m : ℕ) (e : ℤ) → m * up e * 1 ≤ 1 * 2 ^ 30 * down e → m * up e ≤ 2 ^ 30 * down e
 within-cross m e l = le-trans (le-of-eq (sym (mul-one (m * up e)))) (le-trans l (le-of-eq (ap (λ (z : ℕ). z * down e) (one-times (2 ^ 30)))))
 
-pub by-tests : (x : Float) → le x (ofBits binary32 0x4E800000) ≡ true → le (neg (ofBits binary32 0x4E800000)) x ≡ true → Within 30 x
+abbrev limit : Float
+limit = ofBits binary32 0x4E800000
+
+by-tests : (x : Float) → le x (ofBits binary32 0x4E800000) ≡ true → le (neg (ofBits binary32 0x4E800000)) x ≡ true → Within 30 x
 unfolding le lt eq neg ofBits
 by-tests nan h g = absurd (true≢false (sym h))
 by-tests (inf true) h g = absurd (true≢false (sym g))
@@ -241,13 +249,77 @@ by-tests (fin true m e) h g =
     within-cross m e
     (le-by (m * up e * 1) (1 * 2 ^ 30 * down e) (eqb (1 * 2 ^ 30 * down e) (m * up e * 1)) _ (λ t. sym (eqb→eq (1 * 2 ^ 30 * down e) (m * up e * 1) t)) (subst T (sym g) tt))
 
-pub small-more-lanes : (lanes : List Float) (i : ℕ) → i < length lanes → All (Within 30) (take i lanes) → Within 30 (getD lanes i nan) → All (Within 30) (take (i + 1) lanes)
-small-more-lanes lanes i h all x =
-    subst (All (Within 30)) (sym (ap (λ (j : ℕ). take j lanes) (add-one i) ∙ take-suc lanes i nan h)) (all-append (Within 30) (take i lanes) (getD lanes i nan ∷ []) all (x, tt))
+cross-within : (m : ℕ) (e : ℤ) → m * up e ≤ 2 ^ 30 * down e → m * up e * 1 ≤ 1 * 2 ^ 30 * down e
+cross-within m e l = le-trans (le-of-eq (mul-one (m * up e))) (le-trans l (le-of-eq (ap (λ (z : ℕ). z * down e) (sym (one-times (2 ^ 30))))))
 
-pub small-lanes : (lanes : List Float) (i : ℕ) → length lanes ≤ i → All (Within 30) (take i lanes) → All (Within 30) lanes
-small-lanes lanes i h all = subst (All (Within 30)) (take-all i lanes h) all
+-- the other way round than `le-by`
+by-le : (a b : ℕ) (q : Bool) → (a ≡ b → q ≡ true) → a ≤ b → (ltb a b || (q && true)) ≡ true
+by-le a b q e l = go (ltb a b) refl
+  where
+    go : (p : Bool) → ltb a b ≡ p → (p || (q && true)) ≡ true
+    go true h = refl
+    go false h = let m = ltb-false a b h in let same : a ≡ b = omega arith in rw (e same)
+
+-- the limit is more than 0
+some-limit : (e : ℤ) (a : ℕ) (r : Bool) → 1 * 2 ^ 30 * down e ≤ a → (ltb 0 a || r) ≡ true
+some-limit e a r l =
+    let pos : 0 < 1 * 2 ^ 30 * down e = mul-pos (mul-pos (pow-pos 0) (pow-pos 30)) (down-pos e) in
+    rw (lt-ltb 0 a (omega arith))
+
+to-first : (x : Float) → Within 30 x → le x (ofBits binary32 0x4E800000) ≡ true
+unfolding le lt eq ofBits
+to-first nan h = absurd h
+to-first (inf s) h = absurd h
+to-first (fin false m e) h =
+    let a = m * up e * 1 in
+    let b = 1 * 2 ^ 30 * down e in
+    by-le a b (eqb a b) (eq-eqb a b) (cross-within m e h)
+to-first (fin true m e) h = some-limit e (m * up e * 1 + 1 * 2 ^ 30 * down e) _ (omega arith)
+
+to-second : (x : Float) → Within 30 x → le (neg (ofBits binary32 0x4E800000)) x ≡ true
+unfolding le lt eq neg ofBits
+to-second nan h = absurd h
+to-second (inf s) h = absurd h
+to-second (fin false m e) h = some-limit e (1 * 2 ^ 30 * down e + m * up e * 1) _ (omega arith)
+to-second (fin true m e) h =
+    let a = m * up e * 1 in
+    let b = 1 * 2 ^ 30 * down e in
+    by-le a b (eqb b a) (λ (q : a ≡ b). eq-eqb b a (sym q)) (cross-within m e h)
+
+of-within : (b : ℕ) (x : Float) → within b x ≡ true → Within b x
+unfolding within
+of-within b nan h = absurd (true≢false (sym h))
+of-within b (inf s) h = absurd (true≢false (sym h))
+of-within b (fin s m e) h = leb-true (m * up e) (2 ^ b * down e) h
+
+is-within : (b : ℕ) (x : Float) → Within b x → within b x ≡ true
+unfolding within
+is-within b nan h = absurd h
+is-within b (inf s) h = absurd h
+is-within b (fin s m e) h = le-leb (m * up e) (2 ^ b * down e) h
+
+module _ (x : Float) where
+  pub both-tests : le x (ofBits binary32 0x4E800000) ≡ true → le (neg (ofBits binary32 0x4E800000)) x ≡ within 30 x
+  both-tests h = go (le (neg limit) x) refl (within 30 x) refl
+    where
+      go : (a : Bool) → le (neg limit) x ≡ a → (b : Bool) → within 30 x ≡ b → a ≡ b
+      go true g true w = refl
+      go true g false w = sym (is-within 30 x (by-tests x h g)) ∙ w
+      go false g true w = sym g ∙ to-second x (of-within 30 x w)
+      go false g false w = refl
+
+  pub first-test : le x (ofBits binary32 0x4E800000) ≡ false → false ≡ within 30 x
+  first-test h = go (within 30 x) refl
+    where
+      go : (b : Bool) → within 30 x ≡ b → false ≡ b
+      go true w = sym h ∙ to-first x (of-within 30 x w)
+      go false w = refl
+
+lanes-within : (lanes : List Float) → allWithin 30 lanes ≡ true → All (Within 30) lanes
+unfolding allWithin
+lanes-within lanes h =
+    all-of (Within 30) lanes nan (λ (i : ℕ) (l : i < length lanes). of-within 30 (getD lanes i nan) (below.all-at (λ (j : ℕ). within 30 (getD lanes j nan)) (length lanes) i h l))
 
 -- row 10 passes
-pub none-unfit : (lanes : List Float) (dimension n : ℕ) → dimension ≤ 64 → All (Within 30) lanes → decide (row10 (nodesApart lanes dimension) n ∷ []) ≡ passed
-none-unfit lanes dimension n few small = all-clear (nodesApart lanes dimension) n n (le-refl n) (λ i j _ _ _ _. apart-fit lanes dimension few small i j)
+pub none-unfit : (lanes : List Float) (dimension n : ℕ) → dimension ≤ 64 → allWithin 30 lanes ≡ true → decide (row10 (nodesApart lanes dimension) n ∷ []) ≡ passed
+none-unfit lanes dimension n few small = all-clear (nodesApart lanes dimension) n n (le-refl n) (λ i j _ _ _ _. apart-fit lanes dimension few (lanes-within lanes small) i j)

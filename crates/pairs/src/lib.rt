@@ -1,18 +1,16 @@
 // Row 10 of build, begin and iteration: no pair is measured where every lane is so small that no distance can be unfit.
 ghost use mathlib.Core.Path.{_≡_};
-ghost use mathlib.Core.Bool.{true};
 ghost use mathlib.Core.List.{[], _∷_};
 ghost use Prim.Native.Nat.{_*_, _≤_};
 ghost use lib.ListN.{length};
 ghost use Rattle.rules.specs.Distance.{nodesApart};
 ghost use Rattle.rules.specs.Refusals.{decide, decisionOf, row10};
-ghost use Rattle.lists.specs.All.{All};
-ghost use Rattle.pairs.specs.Within.{Within};
+ghost use Rattle.pairs.specs.Within.{within, allWithin};
 use rules::Answer;
 
 // Whether a lane is at most 2 to the 30th in size; a NaN is not.
 fn is_small(x: f32) -> bool
-    ensures { λ r. ⌜ (r ≡ true → Within 30 x) ⌝ }
+    ensures { λ r. ⌜ r ≡ within 30 x ⌝ }
 {
     if x <= 1073741824.0 {
         return -1073741824.0 <= x;
@@ -22,7 +20,7 @@ fn is_small(x: f32) -> bool
 
 // Whether every lane is; all are looked at, so that the compiler can test several at once.
 fn all_small(lanes: &[f32]) -> bool
-    ensures { λ r. ⌜ (r ≡ true → All (Within 30) (now (lanes .entry))) ⌝ }
+    ensures { λ r. ⌜ r ≡ allWithin 30 (now (lanes .entry)) ⌝ }
 {
     let mut all = true;
     let mut i: usize = 0;

@@ -1,24 +1,28 @@
--- `all_fit` meets its contract: while the flag stands, the totals before t are fit.
-use mathlib.Core.Path.{_≡_, sym, subst, _∙_}
-use lib.Dec.{T}
-use mathlib.Core.Bool.{true}
+-- `all_fit` meets its contract: the flag says whether the totals before t are fit.
+use mathlib.Core.Path.{_≡_, sym, _∙_}
+use mathlib.Core.Bool.{Bool}
 use mathlib.Core.Logic.{⊎-elim}
-use Prim.Native.Nat.{ℕ, _≤_, _-_}
+use Prim.Native.Nat.{ℕ, _+_, _≤_, _-_}
 use native.Mathlib.Omega.{arith}
 use borrow.Author.Needs.{needs}
-use Rattle.kernels.specs.Eight.{AllFit}
-use Rattle.kernels.proofs.Laws.{not-not, fit-more}
+use borrow.Author.Tests.{not-true}
+use lib.ListN.{getD}
+use lib.Ieee.{nan}
+use Rattle.rules.specs.Distance.{fit}
+use Rattle.zeros.specs.Zeros.{allBelow}
+use Rattle.zeros.proofs.Laws.{all-none, all-not}
+use Rattle.kernels.proofs.Laws.{not-not, all-passed}
 use Rattle.kernels.proofs.all_fit.Statement.{statement}
 use Rattle.kernels.proofs.all_fit.Tie as tie
 
 abbrev Inv-loop : tie.InvT-loop
-Inv-loop totals all₀ t₀ all t = (t ≤ 8) × (all ≡ true → AllFit totals t)
+Inv-loop totals all₀ t₀ all t = (t ≤ 8) × (all ≡ allBelow (λ (u : ℕ). fit (getD totals u nan)) t)
 
 abbrev μ-loop : tie.MeasureT-loop
 μ-loop totals all₀ t₀ all t = 8 - t
 
 loop-holds : tie.Need-loop-holds Inv-loop μ-loop
-loop-holds c = (search needs, λ e (t : ℕ) h. absurd (omega arith))
+loop-holds c = (search needs, sym (all-none _))
 
 mul-is-fit : tie.Need-mul-is-fit Inv-loop μ-loop
 mul-is-fit c = search needs
@@ -38,10 +42,12 @@ loop-less c = search needs
 loop-again : tie.Need-loop-again Inv-loop μ-loop
 loop-again c =
     let at = c .before .before .before in
-    (search needs, λ e. ⊎-elim (λ w. absurd (subst T (sym e ∙ w .1) tt)) (λ w. fit-more (at .before .args .t1) (at .loop .t) (at .loop .inv .1 (sym (w .1) ∙ e)) (sym (c .before .is-fit .ensures) ∙ not-not _ (w .0 .left))) (c .if1 .came))
+    let p : ℕ → Bool = λ (u : ℕ). fit (getD (at .before .args .t1) u nan) in
+    let t = at .loop .t in
+    (search needs, ⊎-elim (λ w. w .1 ∙ sym (all-not p (t + 1) t (omega arith) (sym (c .before .is-fit .ensures) ∙ not-true _ (w .0 .taken)))) (λ w. w .1 ∙ at .loop .inv .1 ∙ all-passed p t (sym (c .before .is-fit .ensures) ∙ not-not _ (w .0 .left))) (c .if1 .came))
 
 returns : tie.Need-returns Inv-loop μ-loop
-returns c = λ e (t : ℕ) h. c .before .loop .inv .1 e t (omega arith)
+returns c = let eight : c .before .loop .t ≡ 8 = search needs in c .before .loop .inv .1 ∙ rw eight
 
 pub all-fit-spec : {M : Type 1} → statement M
 all-fit-spec =

@@ -1,14 +1,13 @@
 -- `first_unfit` meets its contract: the nodes before `base` are fit with all behind them.
-use mathlib.Core.Path.{sym}
+use mathlib.Core.Path.{sym, _∙_}
 use Prim.Native.Nat.{ℕ, _+_, _≤_, _-_}
 use native.Mathlib.Omega.{arith}
 use denote.Ref.{now}
 use borrow.Author.Needs.{needs}
 use Rattle.rules.specs.Distance.{nodesApart}
 use Rattle.rules.specs.Refusals.{decisionOf}
-use Rattle.kernels.specs.Eight.{Clear}
 use Rattle.kernels.proofs.Laws.{not-not}
-use Rattle.kernels.proofs.Pairs.{clear-join, all-clear}
+use Rattle.kernels.proofs.Pairs.{Clear, block-clear, clear-join, all-clear}
 use Rattle.kernels.proofs.first_unfit.Statement.{statement}
 use Rattle.kernels.proofs.first_unfit.Tie as tie
 
@@ -46,7 +45,7 @@ loop-again : tie.Need-loop-again Inv-loop μ-loop
 loop-again c =
     let at = c .before .before .before in
     let args = at .before .before .before .args in
-    (search needs, clear-join (nodesApart (now (args .lanes)) (args .dimension)) (args .n) (at .loop .base) (at .loop .inv .1) (c .before .clear .ensures (not-not _ (c .if2 .left))))
+    (search needs, clear-join (nodesApart (now (args .lanes)) (args .dimension)) (args .n) (at .loop .base) (at .loop .inv .1) (block-clear (now (args .lanes)) (args .dimension) (args .n) (at .loop .base) (sym (c .before .clear .ensures) ∙ not-not _ (c .if2 .left))))
 
 returns-3 : tie.Need-returns-3 Inv-loop μ-loop
 unfolding decisionOf

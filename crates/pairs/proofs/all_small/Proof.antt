@@ -1,26 +1,28 @@
--- `all_small` meets its contract: as long as none was too large, all so far are small. Assumes nothing.
-use mathlib.Core.Path.{_≡_, sym, subst, _∙_}
-use mathlib.Core.Bool.{true}
+-- `all_small` meets its contract: the flag says whether all so far are small. Assumes nothing.
+use mathlib.Core.Path.{_≡_, sym, _∙_}
+use mathlib.Core.Bool.{Bool}
 use mathlib.Core.Logic.{⊎-elim}
-use lib.Dec.{T}
-use Prim.Native.Nat.{_-_, _≤_}
-use lib.ListN.{length, take}
-use Rattle.lists.specs.All.{All}
-use Rattle.kernels.proofs.Laws.{not-not}
-use Rattle.pairs.specs.Within.{Within}
-use Rattle.pairs.proofs.Sizes.{small-more-lanes, small-lanes}
+use Prim.Native.Nat.{ℕ, _+_, _-_, _≤_}
+use native.Mathlib.Omega.{arith}
+use borrow.Author.Tests.{not-true}
+use lib.ListN.{length, getD}
+use lib.Ieee.{nan}
+use Rattle.zeros.specs.Zeros.{allBelow}
+use Rattle.zeros.proofs.Laws.{all-none, all-not}
+use Rattle.kernels.proofs.Laws.{not-not, all-passed}
+use Rattle.pairs.specs.Within.{within, allWithin}
 use borrow.Author.Needs.{needs}
 use Rattle.pairs.proofs.all_small.Statement.{statement}
 use Rattle.pairs.proofs.all_small.Tie as tie
 
 abbrev Inv-loop : tie.InvT-loop
-Inv-loop lanes all₀ i₀ all i = (i ≤ length lanes) × (all ≡ true → All (Within 30) (take i lanes))
+Inv-loop lanes all₀ i₀ all i = (i ≤ length lanes) × (all ≡ allBelow (λ (j : ℕ). within 30 (getD lanes j nan)) i)
 
 abbrev μ-loop : tie.MeasureT-loop
 μ-loop lanes all₀ i₀ all i = length lanes - i
 
 loop-holds : tie.Need-loop-holds Inv-loop μ-loop
-loop-holds c = (search needs, λ e. tt)
+loop-holds c = (search needs, sym (all-none _))
 
 mul-is-small : tie.Need-mul-is-small Inv-loop μ-loop
 mul-is-small c = search needs
@@ -41,11 +43,15 @@ loop-again : tie.Need-loop-again Inv-loop μ-loop
 loop-again c =
     let at = c .before .before .before .before in
     let lanes = at .before .before .args .lanes .now in
-    let below = c .before .before .before .loop-test .taken in
-    (search needs, λ e. ⊎-elim (λ w. absurd (subst T (sym e ∙ w .1) tt)) (λ w. small-more-lanes lanes (at .loop .i) below (at .loop .inv .1 (sym (w .1) ∙ e)) (c .before .is-small .ensures (not-not _ (w .0 .left)))) (c .if1 .came))
+    let p : ℕ → Bool = λ (j : ℕ). within 30 (getD lanes j nan) in
+    let i = at .loop .i in
+    (search needs, ⊎-elim (λ w. w .1 ∙ sym (all-not p (i + 1) i (omega arith) (sym (c .before .is-small .ensures) ∙ not-true _ (w .0 .taken)))) (λ w. w .1 ∙ at .loop .inv .1 ∙ all-passed p i (sym (c .before .is-small .ensures) ∙ not-not _ (w .0 .left))) (c .if1 .came))
 
 returns : tie.Need-returns Inv-loop μ-loop
-returns c = λ e. small-lanes _ (c .before .loop .i) (c .loop-test .left) (c .before .loop .inv .1 e)
+unfolding allWithin
+returns c =
+    let end : c .before .loop .i ≡ length (c .before .before .before .args .lanes .now) = search needs in
+    c .before .loop .inv .1 ∙ rw end
 
 pub all-small-spec : {M : Type 1} → statement M
 all-small-spec =

@@ -1,5 +1,5 @@
 -- `first_unfit` meets its contract: small lanes have fit distances. Assumes nothing.
-use mathlib.Core.Path.{sym}
+use mathlib.Core.Path.{sym, _∙_}
 use Rattle.rules.specs.Refusals.{decisionOf}
 use Rattle.pairs.proofs.Sizes.{none-unfit}
 use borrow.Author.Needs.{needs}
@@ -11,7 +11,7 @@ all-small-requires c κs = search needs
 
 returns : tie.Need-returns
 unfolding decisionOf
-returns c = sym (none-unfit _ _ _ (c .before .before .if1 .taken) (c .before .all-small .ensures (c .if2 .taken)))
+returns c = sym (none-unfit _ _ _ (c .before .before .if1 .taken) (sym (c .before .all-small .ensures) ∙ c .if2 .taken))
 
 first-unfit-requires : tie.Need-first-unfit-requires
 first-unfit-requires c κs = search needs
