@@ -87,22 +87,19 @@ module _ (l : SearchLent) where
         (subst (λ (i : ℕ). FoundAnswer l (min (l .k) (length (l .roots))) i (searchEnds l (on s))) (sym (ap (λ (x : SearchSaid). x .takings) h)) (found-on s R e))
     found-walk (unfitAt v) R e h = let z : _≡_ {A = ℕ} 0 10 = ap (λ (x : SearchSaid). x .code .number) h in absurd (omega arith)
 
-    -- "Answer: the best set, nearest first"
+    -- only a walk that ended answers Found
     pub found : searchSaid (Found m takings) ≡ searchRule l .said → FoundAnswer l m takings (searchRule l)
     unfolding searchRule searchObeys searchWork searchSaid
     found h = go (decide (searchTable l)) refl h
       where
         go : (d : Decision) → decide (searchTable l) ≡ d → searchSaid (Found m takings) ≡ searchObeys l d .said → FoundAnswer l m takings (searchObeys l d)
-        go passed e h = obeyed (ready l e) h
-          where
-            obeyed : Ready l → searchSaid (Found m takings) ≡ searchObeys l passed .said → FoundAnswer l m takings (searchObeys l passed)
-            obeyed R h = found-walk walking R refl h
+        go passed e h = found-walk walking (ready l e) refl h
         go (refused c) e h =
             let some = numbered (searchTable l) (table-numbered l) c e in
             let none : 0 ≡ c .number = ap (λ (x : SearchSaid). x .code .number) h in
             absurd (omega arith)
 
-    -- so does what the entry gives and leaves
+    -- the same of what the entry answers and leaves
     pub entry-found : (nodes bits su : List ℕ) (sf : List Float) → Searched l (Found m takings) nodes bits su sf → FoundAnswer l m takings (searchLeft (Found m takings) nodes bits su sf)
     entry-found nodes bits su sf S =
         subst (FoundAnswer l m takings) (sym (S .whole)) (found (ap (λ (o : SearchOutcome). o .said) (S .whole)))
