@@ -24,6 +24,7 @@ use Rattle.lists.specs.Ascending.{AllHoldable, NoneBefore, Ascending}
 use Rattle.lists.proofs.Laws.{length-insert, insert-is-perm, holdable-take, ascending-insert, ascending-take}
 use Rattle.lists.proofs.Plain.{all-append, all-at, all-take, all-perm, all-weaker, all-holdable}
 use Rattle.expand.proofs.Near.{Near, Answers, best-near, farthest-held}
+use Rattle.orders.proofs.Least.{none-behind}
 use Rattle.facts.specs.Different.{different}
 use Rattle.facts.specs.Walks.{Measured}
 use Rattle.rules.proofs.Tests.{neither}
@@ -51,10 +52,6 @@ pub record Ended (apart : ℕ → Distance) (n m : ℕ) (es : List Neighbor) (t 
 pub all-back : {A B : Type 0} (P : B → Type 0) (f : A → B) (xs : List A) → All P (map f xs) → All (λ (a : A). P (f a)) xs
 all-back P f [] X = tt
 all-back P f (x ∷ xs) X = (X .0, all-back P f xs (X .1))
-
-none-behind : (x : Neighbor) (xs ys : List Neighbor) → NoneBefore x (xs ++ ys) → NoneBefore x ys
-none-behind x [] ys N = N
-none-behind x (z ∷ xs) ys N = none-behind x xs ys (N .1)
 
 ascending-split : (xs ys : List Neighbor) → Ascending (xs ++ ys) → All (λ (x : Neighbor). NoneBefore x ys) xs
 ascending-split [] ys A = tt

@@ -4,10 +4,8 @@ use mathlib.Core.Bool.{Bool, true, false, cond, _||_, or-assoc}
 use mathlib.Core.List.{List, [], _∷_, _++_}
 use Prim.Native.Nat.{ℕ, suc, _<_}
 use native.Mathlib.Omega.{arith}
-use borrow.Author.Tests.{eqb-true, eqb-false}
 use lib.Dec.{eqb}
-use lib.ListN.{length, getD, set}
-use lib.Seq.{getD-set-same, getD-set-other}
+use lib.ListN.{length}
 use lib.Ieee.{Float}
 use Rattle.rules.specs.declared.Distance.{Distance}
 use Rattle.rules.specs.declared.Distance.the-variants.{Fit, Unfit}
@@ -23,22 +21,13 @@ use Rattle.lists.proofs.Laws.{insert-is-perm, ascending-insert}
 use Rattle.expand.specs.Queue.{ones, AllBelow}
 use Rattle.expand.proofs.Near.{Answers}
 use Rattle.expand.proofs.Sound.{ones-mark, mark-long, Whenever, whenever-then}
+use Rattle.walk.proofs.Marks.{seen-mark}
 use Rattle.facts.specs.Different.{different}
 use Rattle.facts.specs.Walks.{Measured}
 use Rattle.rules.proofs.Tests.{neither}
 use Rattle.facts.proofs.Different.{different-new, different-perm}
 use Rattle.facts.proofs.WalksLists.{has-insert}
 use Rattle.facts.proofs.WalksBest.{held}
-
-seen-mark : (v w : ℕ) (xs : List ℕ) → v < length xs → isSeen v (mark w xs) ≡ (eqb v w || isSeen v xs)
-unfolding isSeen mark
-seen-mark v w xs h = go (eqb v w) refl
-  where
-    go : (b : Bool) → eqb v w ≡ b → eqb (getD (set xs w 1) v 0) 1 ≡ (b || eqb (getD xs v 0) 1)
-    go true e =
-        let one = eqb-true v w e in
-        ap (λ (k : ℕ). eqb (getD (set xs k 1) v 0) 1) (sym one) ∙ ap (λ (x : ℕ). eqb x 1) (getD-set-same xs v 1 0 h)
-    go false e = ap (λ (x : ℕ). eqb x 1) (getD-set-other xs w v 1 0 (eqb-false v w e))
 
 -- what is found in a row, where `before` was seen
 pub record Fresh (apart : ℕ → Distance) (n : ℕ) (before : List ℕ) (f : Found) : Type 0 where

@@ -37,7 +37,7 @@ ascends [] S = tt
 ascends (x ∷ xs) S = (none-before-is x xs (S .0), ascends xs (S .1))
 
 -- of two parts of an ascending list
-none-behind : (x : Neighbor) (xs ys : List Neighbor) → NoneBefore x (xs ++ ys) → NoneBefore x ys
+pub none-behind : (x : Neighbor) (xs ys : List Neighbor) → NoneBefore x (xs ++ ys) → NoneBefore x ys
 none-behind x [] ys N = N
 none-behind x (z ∷ xs) ys N = none-behind x xs ys (N .1)
 

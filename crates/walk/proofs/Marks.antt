@@ -18,7 +18,7 @@ use Rattle.expand.specs.Queue.{ones, AllBelow}
 use Rattle.expand.proofs.Sound.{ones-most, ones-mark, mark-long, Whenever, whenever-then, pushes-below, pushes-both}
 use Rattle.walk.specs.Walks.{Roots}
 
-seen-mark : (v w : ℕ) (xs : List ℕ) → v < length xs → isSeen v (mark w xs) ≡ (eqb v w || isSeen v xs)
+pub seen-mark : (v w : ℕ) (xs : List ℕ) → v < length xs → isSeen v (mark w xs) ≡ (eqb v w || isSeen v xs)
 unfolding isSeen mark
 seen-mark v w xs h = go (eqb v w) refl
   where
