@@ -18,10 +18,11 @@ use Rattle.lists.specs.All.{All}
 use Rattle.lists.proofs.Perm.{perm-map}
 use Rattle.lists.proofs.Laws.{sort-is-perm}
 use Rattle.descent_kept.proofs.Lists.{through-keeps}
+use Rattle.offers.proofs.Laws.{live-full}
 use Rattle.facts.specs.Different.{different}
 use Rattle.facts.proofs.Different.{different-perm, different-last, different-without, different-front, nodes-append}
 use Rattle.facts.proofs.Exact.{nodes-entries}
-use Rattle.facts.proofs.Parts.{live-marked, live-empty, live-append, live-front, live-all}
+use Rattle.facts.proofs.Parts.{live-marked, live-empty, live-append, live-front}
 
 abbrev pub Once : List Neighbor → Type 0
 Once es = different (nodesOf es) ≡ true
@@ -183,6 +184,6 @@ module _ (d : Between) (t : Float) (w : ℕ) (e : Neighbor) (row : List Neighbor
       go true q false = k
       go false q b =
           let l = ltb-false (length (live row)) w q in
-          let full : live row ≡ row = live-all row (omega arith) in
+          let full : live row ≡ row = live-full row (omega arith) in
           let more : Once (row ++ (e ∷ [])) = once-last row e (ap (λ (es : List Neighbor). has (nodeOf e) (nodesOf es)) (sym full) ∙ h) (subst Once full k) in
           once-rewritten (choose (occludes d t true) w pool) row (once-choose (occludes d t true) w pool (once-sort (row ++ (e ∷ [])) more))

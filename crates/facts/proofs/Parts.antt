@@ -7,7 +7,7 @@ use native.Mathlib.Nat.{suc-mul, mul-le-mul-right}
 use native.Mathlib.Omega.{arith}
 use lib.Dec.{ltb}
 use lib.ListN.{length, take, drop, replicate, length-append, length-drop, take-append-drop}
-use lib.Seq.{length-take-le, take-all, take-append-le, drop-append-le, take-at, drop-at, drop-drop}
+use lib.Seq.{length-take-le, take-append-le, drop-append-le, take-at, drop-at, drop-drop}
 use lib.Ieee.{eq, ofBits}
 use borrow.Author.Tests.{ltb-true, ltb-false}
 use Rattle.rules.specs.declared.Neighbor.{Neighbor}
@@ -102,6 +102,3 @@ live-front (e ∷ es) = go (isEmpty e) (live-front es)
     go : (b : Bool) → live es ≡ take (length (live es)) es → cond b [] (e ∷ live es) ≡ take (length (cond b [] (e ∷ live es))) (e ∷ es)
     go true h = refl
     go false h = ap (λ (l : List Neighbor). e ∷ l) h
-
-pub live-all : (es : List Neighbor) → length es ≤ length (live es) → live es ≡ es
-live-all es h = live-front es ∙ take-all (length (live es)) es h

@@ -168,7 +168,7 @@ module _ {w : ℕ} {ds : List Float} {r : ℕ} (made : LiveIn w ds r) (ns : List
 
 -- ---- slots stay sound
 
-live-full : (es : List Neighbor) → length es ≤ length (live es) → live es ≡ es
+pub live-full : (es : List Neighbor) → length es ≤ length (live es) → live es ≡ es
 unfolding live
 live-full [] h = refl
 live-full (e ∷ es) h = go (isEmpty e) (live-full es) h
