@@ -25,7 +25,7 @@ use Rattle.rules.specs.Places.{listFloats, listsIn}
 use Rattle.rules.specs.DescentPlaces.{descentState, descentIn}
 use Rattle.rules.specs.DescentCall.{DescentLent, descentKept, descentWritten, beginObeys, beginRule, iterateTable, iterateEnds, iterateObeys, iterateRule}
 use Rattle.rules.proofs.Tables.{within}
-use Rattle.relay_kept.proofs.Rows.{all-fail, none-hold}
+use Rattle.rules.proofs.Tables.{all-fail, none-hold}
 use Rattle.neighbor.specs.Holdable.{Holdable}
 use Rattle.neighbor.proofs.Bits.{holdable-fit}
 use Rattle.lists.specs.All.{All}

@@ -21,7 +21,8 @@ use Rattle.rules.proofs.Loops.{length-each, part-each}
 use Rattle.lists.specs.All.{All}
 use Rattle.lists.proofs.Plain.{all-map}
 use Rattle.encoded.proofs.Rows.{length-part, all-getD}
-use Rattle.rows.proofs.Laws.{row-in, length-live}
+use Rattle.rules.proofs.Loops.{row-in}
+use Rattle.rows.proofs.Laws.{length-live}
 use Rattle.offers.specs.Sound.{Sound}
 use Rattle.offers.proofs.Laws.{sound-live, sound-part, sound-offered, sound-put}
 use Rattle.build.proofs.Steps.{sound-slots}
