@@ -112,7 +112,7 @@ fn moved(l: Lent, words: &mut [u32], floats: &mut [f32], twin_words: &[u32], twi
     refusals::put_left(same(words, floats, twin_words, twin_floats));
 }
 
-// A move on the parts that are as long as the call says, and on a twin of the state.
+// A move on the parts that are as long as the call says, and on those of a twin of the state.
 fn move_cut(
     l: Lent,
     words: &mut [u32],
@@ -133,21 +133,16 @@ fn move_cut(
     );
 }
 
-fn with_twin(s: State, l: Lent, words: &mut [u32], floats: &mut [f32]) {
-    let mut twin_words = [0u32; 1293];
-    let mut twin_floats = [0.0f32; 329];
-    make(s, &mut twin_words, &mut twin_floats);
-    move_cut(l, words, floats, &twin_words, &twin_floats);
-}
-
-/// A move on a state.
+/// A move on a state, beside a twin of it.
 pub fn lend_move(number: u32, l: Lent, s: State) {
     let mut words = [0u32; 1293];
     let mut floats = [0.0f32; 329];
     make(s, &mut words, &mut floats);
+    let twin_words = words;
+    let twin_floats = floats;
     refusals::put_word(b"case ", number);
     io::write_all(STDOUT_FILENO, b", move");
-    with_twin(s, l, &mut words, &mut floats);
+    move_cut(l, &mut words, &mut floats, &twin_words, &twin_floats);
 }
 
 // What became of all places where a close is refused.
