@@ -1,41 +1,52 @@
 // Reads a game: games/README.md gives the lines of its file.
 use crate::lines;
-use crate::lines::Word;
 use params::SsgParams;
 
-// The kinds of a line, by its first word; the first two have a name and lanes.
-const COUNTER: u32 = 0;
+// The first words of lines, as they are spelt: a 1 and their bytes.
+const COUNTER: u64 = 0x0163_6F75_6E74_6572;
 
-const QUERY: u32 = 1;
+const QUERY: u64 = 0x0171_7565_7279;
 
-const NAMED_LANES: u32 = 2;
+const NAMED_LANES: u64 = 0x016C_616E_6573;
 
-const TEACH: u32 = 3;
+const TEACH: u64 = 0x0174_6561_6368;
 
-const NAMES: u32 = 4;
+const NAMES: u64 = 0x016E_616D_6573;
 
-const ROOTS: u32 = 5;
-
-const OTHER: u32 = 6;
+const ROOTS: u64 = 0x0172_6F6F_7473;
 
 /// Nothing is wrong.
 pub const FINE: u32 = 0;
-/// A line starts with a word that is none of the six.
-pub const UNKNOWN: u32 = 1;
-/// A number is asked for, and here is none.
-pub const NO_NUMBER: u32 = 2;
-/// A whole number is asked for.
-pub const NOT_WHOLE: u32 = 3;
-/// A line has more words than it should.
-pub const MORE: u32 = 4;
-/// The lanes are not named once, before everything that has lanes, or not 1 to 16 of them.
-pub const LANES: u32 = 5;
-/// A counter stands behind a query.
-pub const LATE: u32 = 6;
-/// There are more counters, queries or roots than there is room for.
-pub const ROOM: u32 = 7;
+// A line starts with a word that is none of the six.
+const UNKNOWN: u32 = 1;
 
-/// A game as its file says: the numbers, how many counters and queries there are, the place of the lanes' names, and what is wrong first, and where.
+// A number is asked for, and here is none.
+const NO_NUMBER: u32 = 2;
+
+// A whole number is asked for.
+const NOT_WHOLE: u32 = 3;
+
+// A line has more words than it should.
+const MORE: u32 = 4;
+
+// The lanes are not named once, before everything that has lanes, or not 1 to 16 of them.
+const LANES: u32 = 5;
+
+// A counter stands behind a query.
+const LATE: u32 = 6;
+
+// There are more counters, queries or roots than there is room for.
+const ROOM: u32 = 7;
+
+// The places of the whole numbers of a game: 64 roots, the three sizes of `teach`, the number of `names`, and where the names of 320 counters and queries stand.
+const SIZES: usize = 64;
+
+const K: usize = 67;
+
+const PLACES: usize = 68;
+
+/// A game as its file says: how much of all there is, the parameters, the place of the lanes' names; the line and the place up to which it is read, and what is
+/// wrong there.
 pub struct Game {
     pub dimension: usize,
     pub n: usize,
@@ -44,14 +55,9 @@ pub struct Game {
     pub k: usize,
     pub params: SsgParams,
     pub title: usize,
-    pub fault: u32,
+    pub line: usize,
     pub place: usize,
-}
-
-// What went wrong in some words of a line, and where; and the place behind those that were read.
-struct Reading {
-    fault: u32,
-    at: usize,
+    pub fault: u32,
 }
 
 fn nothing() -> Game {
@@ -64,101 +70,109 @@ fn nothing() -> Game {
         k: 1,
         params: params,
         title: 0,
-        fault: FINE,
+        line: 1,
         place: 0,
+        fault: FINE,
     }
 }
 
-fn wrong(g: Game, fault: u32, place: usize) -> Game {
+// The game read up to a place, where something may be wrong.
+fn read_to(g: Game, place: usize, fault: u32) -> Game {
     let mut r = g;
-    r.fault = fault;
     r.place = place;
+    r.fault = fault;
     r
 }
 
-fn read_up_to(fault: u32, at: usize) -> Reading {
-    Reading {
-        fault: fault,
-        at: at,
-    }
-}
-
-// Fills the slice with the next words of a line, as numbers.
-fn read_values(text: &[u8], from: usize, out: &mut [f32]) -> Reading {
-    let mut at = from;
-    let mut i: usize = 0;
-    while i < out.len() {
-        let w = lines::next_word(text, at);
-        let d = lines::decimal_of(text, w);
-        if d.kind == lines::BAD {
-            return read_up_to(NO_NUMBER, w.start);
+// Reads the next words of a line as whole numbers.
+fn read_wholes(text: &[u8], g: Game, first: usize, end: usize, wholes: &mut [u32]) -> Game {
+    let mut at = g.place;
+    let mut i = first;
+    while i < end {
+        if i >= wholes.len() {
+            return read_to(g, at, ROOM);
         }
-        out[i] = lines::value(d);
+        let w = lines::next_word(text, at);
+        if w.shape != lines::WHOLE {
+            return read_to(g, w.start, NOT_WHOLE);
+        }
+        wholes[i] = w.digits;
         at = w.end;
         i += 1;
     }
-    read_up_to(FINE, at)
+    read_to(g, at, FINE)
 }
 
-// Fills the slice with the next words of a line, as whole numbers.
-fn read_wholes(text: &[u8], from: usize, out: &mut [u32]) -> Reading {
-    let mut at = from;
-    let mut i: usize = 0;
-    while i < out.len() {
-        let w = lines::next_word(text, at);
-        let d = lines::decimal_of(text, w);
-        if !lines::is_whole(d) {
-            return read_up_to(NOT_WHOLE, w.start);
+// Reads the next words of a line as numbers.
+fn read_values(text: &[u8], g: Game, first: usize, end: usize, values: &mut [f32]) -> Game {
+    let mut at = g.place;
+    let mut i = first;
+    while i < end {
+        if i >= values.len() {
+            return read_to(g, at, ROOM);
         }
-        out[i] = d.digits;
+        let w = lines::next_word(text, at);
+        if !lines::is_number(w) {
+            return read_to(g, w.start, NO_NUMBER);
+        }
+        values[i] = lines::value(text, w);
         at = w.end;
         i += 1;
     }
-    read_up_to(FINE, at)
+    read_to(g, at, FINE)
 }
 
 // The game after a line whose numbers are read: a word that is left over is wrong.
-fn after(text: &[u8], g: Game, r: Reading) -> Game {
-    if r.fault != FINE {
-        return wrong(g, r.fault, r.at);
-    }
-    let w = lines::next_word(text, r.at);
-    if lines::is_none(w) {
+fn ended(text: &[u8], g: Game) -> Game {
+    if g.fault != FINE {
         return g;
     }
-    wrong(g, MORE, w.start)
+    let w = lines::next_word(text, g.place);
+    if w.start == w.end {
+        return g;
+    }
+    read_to(g, w.start, MORE)
 }
 
 fn sized(x: u32) -> usize {
     x as usize
 }
 
+/// The whole number at a place, and 0 behind the last.
+pub fn whole(wholes: &[u32], i: usize) -> usize {
+    if i < wholes.len() {
+        return sized(wholes[i]);
+    }
+    0
+}
+
+/// Where the name of a counter or query stands.
+pub fn name_of(wholes: &[u32], node: usize) -> usize {
+    whole(wholes, std::num::wrapping_add_usize(PLACES, node))
+}
+
 // `lanes NAME..`
-fn lanes_line(text: &[u8], g: Game, at: usize) -> Game {
-    let count = lines::count_words(text, at);
+fn lanes_line(text: &[u8], g: Game) -> Game {
+    let count = lines::count_words(text, g.place);
     if g.dimension != 0 {
-        return wrong(g, LANES, at);
+        return read_to(g, g.place, LANES);
     }
-    if count == 0 {
-        return wrong(g, LANES, at);
+    if std::num::wrapping_sub_usize(count, 1) > 15 {
+        return read_to(g, g.place, LANES);
     }
-    if count > 16 {
-        return wrong(g, LANES, at);
-    }
-    let first = lines::next_word(text, at);
     let mut r = g;
     r.dimension = count;
-    r.title = first.start;
+    r.title = lines::find(text, g.place, lines::BLANKS);
     r
 }
 
-// The sizes and the threshold of a build.
-fn with_params(g: Game, sizes: &[u32; 3], threshold: f32) -> Game {
+// The game with the sizes and the threshold of a build.
+fn with_params(g: Game, wholes: &[u32], threshold: f32) -> Game {
     let params = SsgParams {
         threshold: threshold,
-        init_k: sized(sizes[0]),
-        index_size: sized(sizes[1]),
-        neighbor_neighbor_size: sized(sizes[2]),
+        init_k: whole(wholes, SIZES),
+        index_size: whole(wholes, SIZES + 1),
+        neighbor_neighbor_size: whole(wholes, SIZES + 2),
     };
     let mut r = g;
     r.params = params;
@@ -166,170 +180,140 @@ fn with_params(g: Game, sizes: &[u32; 3], threshold: f32) -> Game {
 }
 
 // `teach INIT_K INDEX_SIZE NEIGHBOR_NEIGHBOR_SIZE THRESHOLD`
-fn teach_line(text: &[u8], g: Game, at: usize) -> Game {
-    let mut sizes = [0u32; 3];
-    let mut threshold = [0.0f32; 1];
-    let a = read_wholes(text, at, &mut sizes);
+fn teach_line(text: &[u8], g: Game, wholes: &mut [u32]) -> Game {
+    let a = read_wholes(text, g, SIZES, K, wholes);
     if a.fault != FINE {
-        return wrong(g, a.fault, a.at);
+        return a;
     }
-    let b = read_values(text, a.at, &mut threshold);
-    after(text, with_params(g, &sizes, threshold[0]), b)
+    let mut threshold = [0.0f32; 1];
+    let b = read_values(text, a, 0, 1, &mut threshold);
+    with_params(ended(text, b), wholes, threshold[0])
 }
 
 // `names K`
-fn names_line(text: &[u8], g: Game, at: usize) -> Game {
-    let mut k = [0u32; 1];
-    let a = read_wholes(text, at, &mut k);
-    let mut r = g;
-    r.k = sized(k[0]);
-    after(text, r, a)
+fn names_line(text: &[u8], g: Game, wholes: &mut [u32]) -> Game {
+    let a = read_wholes(text, g, K, PLACES, wholes);
+    let mut r = ended(text, a);
+    r.k = whole(wholes, K);
+    r
 }
 
 // `roots NODE..`
-fn roots_line(text: &[u8], g: Game, at: usize, roots: &mut [u32]) -> Game {
-    let count = lines::count_words(text, at);
-    if count > roots.len() {
-        return wrong(g, ROOM, at);
+fn roots_line(text: &[u8], g: Game, wholes: &mut [u32]) -> Game {
+    let count = lines::count_words(text, g.place);
+    if count > SIZES {
+        return read_to(g, g.place, ROOM);
     }
-    let a = read_wholes(text, at, &mut roots[..count]);
-    let mut r = g;
+    let mut r = read_wholes(text, g, 0, count, wholes);
     r.roots = count;
-    after(text, r, a)
+    r
 }
 
-// One counter or query more: counters stand before queries.
-fn with_point(g: Game, kind: u32, at: usize) -> Game {
+// One counter or query more, where nothing is wrong: counters stand before queries.
+fn with_point(g: Game, kind: u64, place: usize) -> Game {
+    if g.fault != FINE {
+        return g;
+    }
     let mut r = g;
     if kind == QUERY {
         r.asked = std::num::wrapping_add_usize(g.asked, 1);
         return r;
     }
-    if g.asked != 0 {
-        return wrong(g, LATE, at);
-    }
     r.n = std::num::wrapping_add_usize(g.n, 1);
+    if g.asked != 0 {
+        return read_to(g, place, LATE);
+    }
     r
 }
 
-// `counter NAME LANE..` and `query NAME LANE..`: the name's place and the lanes, behind all that are there.
-fn point_line(
-    text: &[u8],
-    g: Game,
-    kind: u32,
-    at: usize,
-    points: &mut [f32],
-    names: &mut [usize],
-) -> Game {
-    let name = lines::next_word(text, at);
-    let i = std::num::wrapping_add_usize(g.n, g.asked);
-    let d = g.dimension;
-    let a = cases::area(i, d);
-    if i >= names.len() {
-        return wrong(g, ROOM, at);
-    }
-    if a > points.len() {
-        return wrong(g, ROOM, at);
-    }
-    if d > points.len() - a {
-        return wrong(g, ROOM, at);
-    }
-    names[i] = name.start;
-    let e = a + d;
-    let read = read_values(text, name.end, &mut points[a..e]);
-    after(text, with_point(g, kind, at), read)
+fn short(place: usize) -> u32 {
+    (place % 65536) as u32
 }
 
-// The kind of a line, by its first word.
-fn kind_of(text: &[u8], w: Word) -> u32 {
-    if lines::is_word(text, w, b"counter") {
-        return COUNTER;
+// `counter NAME LANE..` and `query NAME LANE..`: the name's place and the lanes, behind all that are there.
+fn point_line(text: &[u8], g: Game, kind: u64, wholes: &mut [u32], values: &mut [f32]) -> Game {
+    if g.dimension == 0 {
+        return read_to(g, g.place, LANES);
     }
-    if lines::is_word(text, w, b"query") {
-        return QUERY;
+    let i = std::num::wrapping_add_usize(g.n, g.asked);
+    let slot = std::num::wrapping_add_usize(PLACES, i);
+    if slot >= wholes.len() {
+        return read_to(g, g.place, ROOM);
     }
-    if lines::is_word(text, w, b"lanes") {
-        return NAMED_LANES;
-    }
-    if lines::is_word(text, w, b"teach") {
-        return TEACH;
-    }
-    if lines::is_word(text, w, b"names") {
-        return NAMES;
-    }
-    if lines::is_word(text, w, b"roots") {
-        return ROOTS;
-    }
-    OTHER
+    let name = lines::next_word(text, g.place);
+    wholes[slot] = short(name.start);
+    let first = cases::area(i, g.dimension);
+    let end = std::num::wrapping_add_usize(first, g.dimension);
+    let read = read_values(text, read_to(g, name.end, FINE), first, end, values);
+    with_point(ended(text, read), kind, g.place)
 }
 
 // A line that says what there is: lanes, sizes, roots, names.
-fn setting(text: &[u8], g: Game, kind: u32, at: usize, roots: &mut [u32]) -> Game {
+fn setting(text: &[u8], g: Game, kind: u64, start: usize, wholes: &mut [u32]) -> Game {
     if kind == NAMED_LANES {
-        return lanes_line(text, g, at);
+        return lanes_line(text, g);
     }
     if kind == TEACH {
-        return teach_line(text, g, at);
+        return teach_line(text, g, wholes);
     }
     if kind == NAMES {
-        return names_line(text, g, at);
+        return names_line(text, g, wholes);
     }
-    roots_line(text, g, at, roots)
+    if kind == ROOTS {
+        return roots_line(text, g, wholes);
+    }
+    read_to(g, start, UNKNOWN)
 }
 
-// A line of any kind, from behind its first word on.
-fn line_of_kind(
-    text: &[u8],
-    g: Game,
-    kind: u32,
-    at: usize,
-    points: &mut [f32],
-    names: &mut [usize],
-    roots: &mut [u32],
-) -> Game {
-    if kind > QUERY {
-        return setting(text, g, kind, at, roots);
+fn is_point(kind: u64) -> bool {
+    if kind == COUNTER {
+        return true;
     }
-    if g.dimension == 0 {
-        return wrong(g, LANES, at);
-    }
-    point_line(text, g, kind, at, points, names)
+    kind == QUERY
 }
 
-fn line(
-    text: &[u8],
-    g: Game,
-    at: usize,
-    points: &mut [f32],
-    names: &mut [usize],
-    roots: &mut [u32],
-) -> Game {
-    let w = lines::next_word(text, at);
-    if lines::is_none(w) {
+fn line(text: &[u8], g: Game, wholes: &mut [u32], values: &mut [f32]) -> Game {
+    let w = lines::next_word(text, g.place);
+    if w.start == w.end {
         return g;
     }
-    let kind = kind_of(text, w);
-    if kind == OTHER {
-        return wrong(g, UNKNOWN, w.start);
+    let behind = read_to(g, w.end, FINE);
+    if is_point(w.spelt) {
+        return point_line(text, behind, w.spelt, wholes, values);
     }
-    line_of_kind(text, g, kind, w.end, points, names, roots)
+    setting(text, behind, w.spelt, w.start, wholes)
 }
 
-/// Reads a whole file, up to the first thing that is wrong. A proved loop has to end: it counts down, from more lines than there are bytes.
-pub fn read(text: &[u8], points: &mut [f32], names: &mut [usize], roots: &mut [u32]) -> Game {
-    let mut turns: u32 = 65536;
-    let mut at: usize = 0;
+// The game read up to the start of the next line, where nothing is wrong.
+fn next_line(text: &[u8], g: Game) -> Game {
+    if g.fault != FINE {
+        return g;
+    }
+    let end = lines::find(text, g.place, lines::LINE);
+    let mut r = g;
+    r.place = std::num::wrapping_add_usize(end, 1);
+    r.line = std::num::wrapping_add_usize(g.line, 1);
+    r
+}
+
+fn whole_line(text: &[u8], g: Game, wholes: &mut [u32], values: &mut [f32]) -> Game {
+    let r = line(text, g, wholes, values);
+    next_line(text, r)
+}
+
+/// Reads a whole file, up to the first thing that is wrong. A proved loop has to end: it counts the lines, and stops at more than there are bytes.
+pub fn read(text: &[u8], wholes: &mut [u32], values: &mut [f32]) -> Game {
     let mut g = nothing();
+    let mut turns: u32 = 65536;
     while turns > 0 {
-        if at >= text.len() {
+        if g.place >= text.len() {
             return g;
         }
-        let next = line(text, g, at, points, names, roots);
+        let next = whole_line(text, g, wholes, values);
         g = next;
         if g.fault != FINE {
             return g;
         }
-        at = lines::line_after(text, at);
         turns -= 1;
     }
     g

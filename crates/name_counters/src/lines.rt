@@ -1,26 +1,42 @@
 // The text of a game: its lines, their words, and the decimals among them.
 
-/// A word of a line: its first byte and the place behind it. Where the line has no more words both are the same.
+/// What ends a line.
+pub const LINE: u32 = 0;
+/// What ends a line's words: a comment too.
+pub const WORDS: u32 = 1;
+// What ends a word: a blank too.
+const WORD: u32 = 2;
+/// What ends some blanks.
+pub const BLANKS: u32 = 3;
+
+// The shapes of a word that may be a number: its digits, a minus perhaps before them, a point perhaps among them. An odd shape is a number's: 5, 7 and 9 have
+// one, two and three places behind the point.
+const START: u32 = 0;
+
+/// A whole number.
+pub const WHOLE: u32 = 1;
+
+const MINUS: u32 = 2;
+
+const SIGNED: u32 = 3;
+
+const POINT: u32 = 4;
+
+const THREE_PLACES: u32 = 9;
+
+const BAD: u32 = 10;
+
+// `nan`, as it is spelt.
+const NAN: u64 = 0x016E_616E;
+
+/// A word of a line: its first byte and the place behind it, which are the same where the line has no more words; a 1 and its bytes as one number, where there
+/// are at most seven; and its shape and digits as a decimal.
 pub struct Word {
     pub start: usize,
     pub end: usize,
-}
-
-/// No number.
-pub const BAD: u8 = 0;
-/// Digits, a point perhaps among them, a minus perhaps before them.
-pub const NUMBER: u8 = 1;
-/// The word `nan`.
-pub const NAN: u8 = 2;
-
-/// A decimal: its digits as one whole number over 1, 10, 100 or 1,000.
-pub struct Decimal {
-    pub kind: u8,
-    pub minus: bool,
-    pub point: bool,
-    pub long: u32,
+    pub spelt: u64,
+    pub shape: u32,
     pub digits: u32,
-    pub scale: u16,
 }
 
 fn is_blank(b: u8) -> bool {
@@ -33,26 +49,30 @@ fn is_blank(b: u8) -> bool {
     b == b'\r'
 }
 
-// A line's words end at a comment or at the line's end.
-fn ends_words(b: u8) -> bool {
+fn stops(b: u8, what: u32) -> bool {
+    if b == b'\n' {
+        return true;
+    }
+    if what == LINE {
+        return false;
+    }
     if b == b'#' {
         return true;
     }
-    b == b'\n'
-}
-
-fn ends_word(b: u8) -> bool {
+    if what == WORDS {
+        return false;
+    }
     if is_blank(b) {
-        return true;
+        return what == WORD;
     }
-    ends_words(b)
+    what == BLANKS
 }
 
-fn skip_blanks(text: &[u8], from: usize) -> usize {
+/// The first place from `from` on where such an end is, or the text's.
+pub fn find(text: &[u8], from: usize, what: u32) -> usize {
     let mut at = from;
     while at < text.len() {
-        let blank = is_blank(text[at]);
-        if !blank {
+        if stops(text[at], what) {
             return at;
         }
         at += 1;
@@ -60,69 +80,95 @@ fn skip_blanks(text: &[u8], from: usize) -> usize {
     at
 }
 
-fn word_end(text: &[u8], from: usize) -> usize {
-    let mut at = from;
-    while at < text.len() {
-        if ends_word(text[at]) {
-            return at;
-        }
-        at += 1;
+fn spelt_with(spelt: u64, b: u8) -> u64 {
+    if spelt > 0xFF_FFFF_FFFF_FFFF {
+        return 0xFFFF_FFFF_FFFF_FFFF;
     }
-    at
+    spelt * 256 + b as u64
 }
 
-/// The place behind the words of the line that `from` lies in.
-pub fn words_end(text: &[u8], from: usize) -> usize {
-    let mut at = from;
-    while at < text.len() {
-        if ends_words(text[at]) {
-            return at;
-        }
-        at += 1;
+fn is_digit(b: u8) -> bool {
+    if b < b'0' {
+        return false;
     }
-    at
+    b <= b'9'
 }
 
-/// The start of the next line.
-pub fn line_after(text: &[u8], from: usize) -> usize {
-    let mut at = from;
-    while at < text.len() {
-        if text[at] == b'\n' {
-            return at + 1;
-        }
-        at += 1;
+// All digits together stay below 2^24, so that binary32 holds them exactly.
+fn digits_with(digits: u32, b: u8) -> u32 {
+    if digits > 1600000 {
+        return digits;
     }
-    at
+    if b < b'0' {
+        return digits;
+    }
+    if b > b'9' {
+        return digits;
+    }
+    digits * 10 + (b - b'0') as u32
 }
 
-/// The number of the line that a place lies in, from 1 on.
-pub fn line_of(text: &[u8], place: usize) -> usize {
-    let mut at: usize = 0;
-    let mut line: usize = 1;
-    while at < text.len() {
-        if at == place {
-            return line;
-        }
-        if text[at] == b'\n' {
-            line = std::num::wrapping_add_usize(line, 1);
-        }
-        at += 1;
+// A digit more: three stand behind the point at most.
+fn shape_with_digit(shape: u32) -> u32 {
+    if shape >= THREE_PLACES {
+        return BAD;
     }
-    line
+    if shape % 2 == 0 {
+        return shape + 1;
+    }
+    if shape < POINT {
+        return shape;
+    }
+    shape + 2
+}
+
+fn shape_with(shape: u32, digits: u32, b: u8) -> u32 {
+    if is_digit(b) {
+        if digits > 1600000 {
+            return BAD;
+        }
+        return shape_with_digit(shape);
+    }
+    if b == b'-' {
+        if shape == START {
+            return MINUS;
+        }
+    }
+    if b == b'.' {
+        if shape == WHOLE {
+            return POINT;
+        }
+        if shape == SIGNED {
+            return POINT;
+        }
+    }
+    BAD
 }
 
 /// The next word of a line.
 pub fn next_word(text: &[u8], from: usize) -> Word {
-    let start = skip_blanks(text, from);
+    let start = find(text, from, BLANKS);
+    let mut end = start;
+    let mut spelt: u64 = 1;
+    let mut shape: u32 = START;
+    let mut digits: u32 = 0;
+    while end < text.len() {
+        let b = text[end];
+        if stops(b, WORD) {
+            break;
+        }
+        spelt = spelt_with(spelt, b);
+        shape = shape_with(shape, digits, b);
+        digits = digits_with(digits, b);
+        end += 1;
+    }
     Word {
         start: start,
-        end: word_end(text, start),
+        end: end,
+        spelt: spelt,
+        shape: shape,
+        digits: digits,
     }
-}
-
-/// Whether a line has no more words.
-pub fn is_none(w: Word) -> bool {
-    w.start == w.end
 }
 
 /// How many words a line has from a place on, and 1,024 where there are more.
@@ -131,7 +177,7 @@ pub fn count_words(text: &[u8], from: usize) -> usize {
     let mut at = from;
     while count < 1024 {
         let w = next_word(text, at);
-        if is_none(w) {
+        if w.start == w.end {
             return count;
         }
         at = w.end;
@@ -140,176 +186,38 @@ pub fn count_words(text: &[u8], from: usize) -> usize {
     count
 }
 
-/// Whether a word is this one.
-pub fn is_word(text: &[u8], w: Word, name: &[u8]) -> bool {
-    let start = w.start;
-    let end = w.end;
-    if end > text.len() {
-        return false;
+/// Whether a word is a number or `nan`.
+pub fn is_number(w: Word) -> bool {
+    if w.spelt == NAN {
+        return true;
     }
-    if start > end {
-        return false;
-    }
-    check::same(&text[start..end], name)
+    w.shape % 2 == 1
 }
 
-fn no_decimal() -> Decimal {
-    Decimal {
-        kind: BAD,
-        minus: false,
-        point: false,
-        long: 0,
-        digits: 0,
-        scale: 1,
+fn scale(shape: u32) -> f32 {
+    if shape < 5 {
+        return 1.0;
     }
-}
-
-// A minus stands before everything else.
-fn with_minus(d: Decimal) -> Decimal {
-    let mut r = d;
-    r.kind = NUMBER;
-    if d.minus {
-        r.kind = BAD;
+    if shape == 5 {
+        return 10.0;
     }
-    if d.long > 0 {
-        r.kind = BAD;
+    if shape == 7 {
+        return 100.0;
     }
-    r.minus = true;
-    r
-}
-
-// One point, and digits before it.
-fn with_point(d: Decimal) -> Decimal {
-    let mut r = d;
-    if d.point {
-        r.kind = BAD;
-    }
-    if d.long == 0 {
-        r.kind = BAD;
-    }
-    r.point = true;
-    r
-}
-
-fn bad(d: Decimal) -> Decimal {
-    let mut r = d;
-    r.kind = BAD;
-    r
-}
-
-// A digit more: all of them together stay below 2^24, so that binary32 holds them exactly, and three stand behind the point at most.
-fn with_digit(d: Decimal, digit: u8) -> Decimal {
-    if d.digits > 1600000 {
-        return bad(d);
-    }
-    if d.scale > 100 {
-        return bad(d);
-    }
-    let mut r = d;
-    r.digits = d.digits * 10 + digit as u32;
-    r.long = 1;
-    if d.point {
-        r.scale = d.scale * 10;
-    }
-    r
-}
-
-fn with_byte(d: Decimal, b: u8) -> Decimal {
-    if d.kind == BAD {
-        return d;
-    }
-    if b == b'-' {
-        return with_minus(d);
-    }
-    if b == b'.' {
-        return with_point(d);
-    }
-    if b < b'0' {
-        return bad(d);
-    }
-    if b > b'9' {
-        return bad(d);
-    }
-    with_digit(d, b - b'0')
-}
-
-// Digits are needed, and behind a point too.
-fn finished(d: Decimal) -> Decimal {
-    if d.long == 0 {
-        return bad(d);
-    }
-    if d.point {
-        if d.scale == 1 {
-            return bad(d);
-        }
-    }
-    d
-}
-
-fn read_decimal(word: &[u8]) -> Decimal {
-    let mut d = no_decimal();
-    d.kind = NUMBER;
-    let mut at: usize = 0;
-    while at < word.len() {
-        let next = with_byte(d, word[at]);
-        d = next;
-        at += 1;
-    }
-    finished(d)
-}
-
-/// The decimal that a word is.
-pub fn decimal_of(text: &[u8], w: Word) -> Decimal {
-    if is_word(text, w, b"nan") {
-        let mut d = no_decimal();
-        d.kind = NAN;
-        return d;
-    }
-    let start = w.start;
-    let end = w.end;
-    if end > text.len() {
-        return no_decimal();
-    }
-    if start > end {
-        return no_decimal();
-    }
-    read_decimal(&text[start..end])
-}
-
-/// Whether a decimal is a whole number.
-pub fn is_whole(d: Decimal) -> bool {
-    if d.kind != NUMBER {
-        return false;
-    }
-    if d.minus {
-        return false;
-    }
-    d.scale == 1
-}
-
-fn wide(x: u16) -> f32 {
-    x as f32
-}
-
-// A whole number below 2^24, exactly.
-fn exact(x: u32) -> f32 {
-    let high = x / 256;
-    let low = x % 256;
-    if high > 65535 {
-        return 0.0;
-    }
-    wide(high as u16) * 256.0 + wide(low as u16)
+    1000.0
 }
 
 /// The binary32 number nearest to a decimal: both sides of the division are exact, so that it alone rounds.
-pub fn value(d: Decimal) -> f32 {
-    if d.kind == NAN {
-        let zero = 0.0f32;
-        return zero / zero;
+pub fn value(text: &[u8], w: Word) -> f32 {
+    if w.spelt == NAN {
+        return refusals::nan();
     }
-    let x = exact(d.digits) / wide(d.scale);
-    if d.minus {
-        return -x;
+    let x = std::num::nearest_u32_to_f32(w.digits) / scale(w.shape);
+    let at = w.start;
+    if at < text.len() {
+        if text[at] == b'-' {
+            return -x;
+        }
     }
     x
 }

@@ -37,7 +37,7 @@ fn floats_room() -> [f32; 167936]
 }
 
 // Places for the lanes of 320 counters and queries.
-fn points_room() -> [f32; 5120]
+fn values_room() -> [f32; 5120]
     ensures { λ r. ⌜ 5120 ≡ length r ⌝ }
 {
     [0.0; 5120]
@@ -59,47 +59,45 @@ fn search_floats() -> [f32; 2304]
 // One result of a query.
 fn put_result(
     text: &[u8],
-    names: &[usize],
+    wholes: &[u32],
     table: u32,
     asked: usize,
     rank: usize,
-    node: u32,
-    bits: u32,
+    node: usize,
+    bits: usize,
 ) {
     if table == RANKS {
-        tables::put_row(asked, rank, node as usize, bits as usize);
+        tables::put_row(asked, rank, node, bits);
     }
-    let i = node as usize;
     if table == PERSON {
-        if i < names.len() {
-            tables::put_counter(text, rank, names[i]);
-        }
+        tables::put_line(b"\n      ", rank, b"  ", text, game::name_of(wholes, node));
     }
 }
 
 // The results of a query, nearest first.
 fn put_results(
     text: &[u8],
-    names: &[usize],
+    wholes: &[u32],
     table: u32,
     asked: usize,
+    m: usize,
     nodes: &[u32],
     bits: &[u32],
 ) {
     let mut i: usize = 0;
-    while i < nodes.len() {
-        if i >= bits.len() {
-            return;
-        }
-        put_result(text, names, table, asked, i + 1, nodes[i], bits[i]);
+    while i < m {
+        let node = game::whole(nodes, i);
+        let bit = game::whole(bits, i);
         i += 1;
+        put_result(text, wholes, table, asked, i, node, bit);
     }
 }
 
 // A query's refusal: no counter is named.
 fn put_refusal(table: u32, asked: usize, r: Refusal) {
     if table == PERSON {
-        tables::put_refused(b"      no name: refused", r);
+        tables::say(b"\n      no name: refused");
+        refusals::put_refusal(r);
     }
     if table == REFUSALS {
         let code = refusals::code_of(r);
@@ -107,44 +105,20 @@ fn put_refusal(table: u32, asked: usize, r: Refusal) {
     }
 }
 
-// A query's answer, in one of the tables.
-fn put_answer(
-    text: &[u8],
-    names: &[usize],
-    table: u32,
-    asked: usize,
-    a: SearchAnswer,
-    nodes: &[u32],
-    bits: &[u32],
-) {
-    match a {
-        SearchAnswer::Found { m, takings: _ } => {
-            if m <= nodes.len() {
-                put_results(text, names, table, asked, &nodes[..m], bits);
-            }
-        }
-        SearchAnswer::Refused(r) => put_refusal(table, asked, r),
-    }
-}
-
-// Looks one query up.
-fn ask(
-    text: &[u8],
+// Looks one query up, whose lanes stand behind those of the counters.
+fn look(
     g: Game,
-    names: &[usize],
     lanes: &[f32],
     graph: &[u32],
     roots: &[u32],
     query: &[f32],
-    table: u32,
-    asked: usize,
-) {
+    nodes: &mut [u32],
+    bits: &mut [u32],
+) -> SearchAnswer {
     let params = g.params;
-    let mut nodes = [0u32; 64];
-    let mut bits = [0u32; 64];
     let mut words = search_words();
     let mut floats = search_floats();
-    let a = search::search(
+    search::search(
         g.dimension,
         g.n,
         lanes,
@@ -153,30 +127,64 @@ fn ask(
         roots,
         query,
         g.k,
-        &mut nodes,
-        &mut bits,
+        nodes,
+        bits,
         &mut words,
         &mut floats,
-    );
-    put_answer(text, names, table, asked, a, &nodes, &bits);
+    )
 }
 
-// The query itself, in the table for a person.
-fn put_asked(text: &[u8], names: &[usize], table: u32, asked: usize, place: usize) {
-    if table == PERSON {
-        if place < names.len() {
-            tables::put_query(text, asked, names[place]);
+// Looks a query up and prints its answer, in one of the tables.
+fn ask(
+    text: &[u8],
+    g: Game,
+    wholes: &[u32],
+    lanes: &[f32],
+    graph: &[u32],
+    query: &[f32],
+    table: u32,
+    asked: usize,
+) {
+    let mut nodes = [0u32; 64];
+    let mut bits = [0u32; 64];
+    let roots = cases::least(g.roots, wholes.len());
+    let a = look(
+        g,
+        lanes,
+        graph,
+        &wholes[..roots],
+        query,
+        &mut nodes,
+        &mut bits,
+    );
+    match a {
+        SearchAnswer::Found { m, takings: _ } => {
+            put_results(text, wholes, table, asked, m, &nodes, &bits);
         }
+        SearchAnswer::Refused(r) => put_refusal(table, asked, r),
     }
 }
 
+// The query itself, in the table for a person.
+fn put_asked(text: &[u8], wholes: &[u32], table: u32, asked: usize, node: usize) {
+    if table == PERSON {
+        tables::put_line(
+            b"\n\nquery ",
+            asked,
+            b"  ",
+            text,
+            game::name_of(wholes, node),
+        );
+    }
+}
+
+// Looks all queries up, for one of the tables.
 fn ask_all(
     text: &[u8],
     g: Game,
-    names: &[usize],
+    wholes: &[u32],
     lanes: &[f32],
     graph: &[u32],
-    roots: &[u32],
     queries: &[f32],
     table: u32,
 ) {
@@ -191,127 +199,117 @@ fn ask_all(
             return;
         }
         let end = at + d;
-        let query = &queries[at..end];
         put_asked(
             text,
-            names,
+            wholes,
             table,
             i + 1,
             std::num::wrapping_add_usize(g.n, i),
         );
-        ask(text, g, names, lanes, graph, roots, query, table, i + 1);
+        ask(
+            text,
+            g,
+            wholes,
+            lanes,
+            graph,
+            &queries[at..end],
+            table,
+            i + 1,
+        );
         at = end;
         i += 1;
     }
 }
 
 // One place of the graph; the first of a row starts its line.
-fn put_edge(row: usize, column: usize, n: usize, to: u32) {
+fn put_edge(row: usize, column: usize, n: usize, to: usize) {
     if column == 0 {
         refusals::put(b"\n", row);
         tables::say(b",");
     }
-    if (to as usize) < n {
+    if to < n {
         if column > 0 {
             tables::say(b" ");
         }
-        refusals::put_word(b"", to);
+        refusals::put(b"", to);
     }
 }
 
 // The edges of every node.
 fn put_graph(graph: &[u32], n: usize, index_size: usize) {
     let mut i: usize = 0;
-    let mut row: usize = 0;
-    let mut column: usize = 0;
-    tables::say(b"\nnode,edges");
+    if index_size == 0 {
+        return;
+    }
     while i < graph.len() {
-        put_edge(row, column, n, graph[i]);
-        column = std::num::wrapping_add_usize(column, 1);
-        if column == index_size {
-            column = 0;
-            row = std::num::wrapping_add_usize(row, 1);
-        }
+        put_edge(i / index_size, i % index_size, n, game::whole(graph, i));
         i += 1;
     }
-    tables::say(b"\n");
 }
 
-fn put_tables(
-    text: &[u8],
-    g: Game,
-    names: &[usize],
-    lanes: &[f32],
-    graph: &[u32],
-    roots: &[u32],
-    queries: &[f32],
-) {
+fn put_tables(text: &[u8], g: Game, wholes: &[u32], lanes: &[f32], graph: &[u32], queries: &[f32]) {
     tables::put_head(text, g);
-    ask_all(text, g, names, lanes, graph, roots, queries, PERSON);
-    tables::say(b"\nquery,rank,node,bits\n");
-    ask_all(text, g, names, lanes, graph, roots, queries, RANKS);
-    tables::say(b"\nquery,refusal,first,second\n");
-    ask_all(text, g, names, lanes, graph, roots, queries, REFUSALS);
+    ask_all(text, g, wholes, lanes, graph, queries, PERSON);
+    tables::say(b"\n\nquery,rank,node,bits");
+    ask_all(text, g, wholes, lanes, graph, queries, RANKS);
+    tables::say(b"\n\nquery,refusal,first,second");
+    ask_all(text, g, wholes, lanes, graph, queries, REFUSALS);
+    tables::say(b"\n\nnode,edges");
     let params = g.params;
     put_graph(graph, g.n, params.index_size);
 }
 
-// Teaches the game.
-fn teach(
-    text: &[u8],
-    g: Game,
-    names: &[usize],
-    lanes: &[f32],
-    graph: &mut [u32],
-    roots: &[u32],
-    queries: &[f32],
-) {
+fn teach(g: Game, lanes: &[f32], graph: &mut [u32]) -> Answer {
     let mut words = words_room();
     let mut floats = floats_room();
-    let params = g.params;
-    let a = build::build(
-        params,
+    build::build(
+        g.params,
         g.dimension,
         g.n,
         lanes,
         graph,
         &mut words,
         &mut floats,
-    );
+    )
+}
+
+// Teaches the game and asks its queries.
+fn play(text: &[u8], g: Game, wholes: &[u32], lanes: &[f32], graph: &mut [u32], queries: &[f32]) {
+    let a = teach(g, lanes, graph);
     match a {
-        Answer::Done => put_tables(text, g, names, lanes, graph, roots, queries),
-        Answer::Refused(r) => tables::put_refused(b"the game is refused", r),
+        Answer::Done => put_tables(text, g, wholes, lanes, graph, queries),
+        Answer::Refused(r) => {
+            tables::say(b"the game is refused");
+            refusals::put_refusal(r);
+        }
     }
 }
 
-// The parts of what was read: the counters' lanes, the queries' behind them, and the roots.
-fn with_parts(text: &[u8], g: Game, names: &[usize], points: &[f32], roots: &[u32]) {
+// The parts of what was read: the counters' lanes, and the queries' behind them.
+fn with_parts(text: &[u8], g: Game, wholes: &[u32], values: &[f32]) {
     let mut graph = graph_room();
-    let cut = cases::least(cases::area(g.n, g.dimension), points.len());
     let params = g.params;
-    let graph_long = cases::least(cases::area(g.n, params.index_size), graph.len());
-    let roots_long = cases::least(g.roots, roots.len());
-    teach(
+    let cut = cases::least(cases::area(g.n, g.dimension), values.len());
+    let long = cases::least(cases::area(g.n, params.index_size), graph.len());
+    play(
         text,
         g,
-        names,
-        &points[..cut],
-        &mut graph[..graph_long],
-        &roots[..roots_long],
-        &points[cut..],
+        wholes,
+        &values[..cut],
+        &mut graph[..long],
+        &values[cut..],
     );
 }
 
 fn name_counters(text: &[u8]) {
-    let mut points = points_room();
-    let mut names = [0usize; 320];
-    let mut roots = [0u32; 64];
-    let g = game::read(text, &mut points, &mut names, &mut roots);
+    let mut wholes = [0u32; 388];
+    let mut values = values_room();
+    let g = game::read(text, &mut wholes, &mut values);
     if g.fault != game::FINE {
         tables::put_fault(text, g);
         return;
     }
-    with_parts(text, g, &names, &points, &roots);
+    with_parts(text, g, &wholes, &values);
 }
 
 fn main() {
@@ -322,4 +320,5 @@ fn main() {
         return;
     }
     name_counters(&room[..n]);
+    tables::say(b"\n");
 }

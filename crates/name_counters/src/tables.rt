@@ -1,8 +1,7 @@
-// What is printed: a table for a person, tables for a program, and what is wrong with a file.
+// What is printed: a table for a person, tables for a program, and what is wrong with a file. A line is started by what is printed, and the last ended by `main`.
 use crate::game::Game;
 use crate::lines;
 use libc::STDOUT_FILENO;
-use rules::Refusal;
 
 /// Prints some bytes.
 pub fn say(s: &[u8]) {
@@ -10,8 +9,8 @@ pub fn say(s: &[u8]) {
 }
 
 /// Prints the words of a line from a place on.
-pub fn put_words(text: &[u8], from: usize) {
-    let end = lines::words_end(text, from);
+fn put_words(text: &[u8], from: usize) {
+    let end = lines::find(text, from, lines::WORDS);
     if end > text.len() {
         return;
     }
@@ -21,45 +20,25 @@ pub fn put_words(text: &[u8], from: usize) {
     say(&text[from..end]);
 }
 
+/// Prints a number between two texts, and then the words of a line from a place on.
+pub fn put_line(before: &[u8], n: usize, behind: &[u8], text: &[u8], from: usize) {
+    refusals::put(before, n);
+    say(behind);
+    put_words(text, from);
+}
+
 /// The head of the table for a person.
 pub fn put_head(text: &[u8], g: Game) {
     refusals::put(b"", g.n);
-    refusals::put(b" counters of ", g.dimension);
-    say(b" lanes: ");
-    put_words(text, g.title);
-    say(b"\n");
+    put_line(b" counters of ", g.dimension, b" lanes: ", text, g.title);
 }
 
-/// A query and its lanes, as the file has them.
-pub fn put_query(text: &[u8], i: usize, place: usize) {
-    refusals::put(b"\nquery ", i);
-    say(b"  ");
-    put_words(text, place);
-    say(b"\n");
-}
-
-/// A named counter and its lanes, as the file has them.
-pub fn put_counter(text: &[u8], rank: usize, place: usize) {
-    refusals::put(b"      ", rank);
-    say(b"  ");
-    put_words(text, place);
-    say(b"\n");
-}
-
-/// That something is refused, with the refusal's number and places.
-pub fn put_refused(what: &[u8], r: Refusal) {
-    say(what);
-    refusals::put_refusal(r);
-    say(b"\n");
-}
-
-/// A row of numbers for a program, the last of them at the line's end.
+/// A row of numbers for a program.
 pub fn put_row(a: usize, b: usize, c: usize, d: usize) {
-    refusals::put(b"", a);
+    refusals::put(b"\n", a);
     refusals::put(b",", b);
     refusals::put(b",", c);
     refusals::put(b",", d);
-    say(b"\n");
 }
 
 // The start of a line, counted from 0.
@@ -67,14 +46,14 @@ fn line_start(text: &[u8], line: u32) -> usize {
     let mut left = line;
     let mut at: usize = 0;
     while left > 0 {
-        at = lines::line_after(text, at);
+        at = std::num::wrapping_add_usize(lines::find(text, at, lines::LINE), 1);
         left -= 1;
     }
     at
 }
 
-// A line for each of the faults of `game`, in the order of their numbers.
-fn say_wrong(fault: u32) {
+/// What is wrong with a file, and where: a line for each of the faults of `game`, in the order of their numbers.
+pub fn put_fault(text: &[u8], g: Game) {
     let messages = b"nothing is wrong
 a line starts with lanes, teach, names, roots, counter or query
 a number of at most three places behind the point, or nan, should stand
@@ -84,15 +63,13 @@ the line should end
 counters stand before queries
 there is no room for more: 320 counters and queries, 64 roots
 ";
-    put_words(messages, line_start(messages, fault));
-}
-
-/// What is wrong with a file, and where.
-pub fn put_fault(text: &[u8], g: Game) {
-    refusals::put(b"line ", lines::line_of(text, g.place));
-    say(b": ");
-    say_wrong(g.fault);
+    put_line(
+        b"line ",
+        g.line,
+        b": ",
+        messages,
+        line_start(messages, g.fault),
+    );
     say(b", where it says: ");
     put_words(text, g.place);
-    say(b"\n");
 }

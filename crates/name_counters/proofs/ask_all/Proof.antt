@@ -5,10 +5,10 @@ use Rattle.name_counters.proofs.ask_all.Statement.{statement}
 use Rattle.name_counters.proofs.ask_all.Tie as tie
 
 abbrev Inv-loop : tie.InvT-loop
-Inv-loop text g names lanes graph roots queries table d i₀ at₀ i at = Unit {0}
+Inv-loop text g wholes lanes graph queries table d i₀ at₀ i at = Unit {0}
 
 abbrev μ-loop : tie.MeasureT-loop
-μ-loop text g names lanes graph roots queries table d i₀ at₀ i at = g .asked - i
+μ-loop text g wholes lanes graph queries table d i₀ at₀ i at = g .asked - i
 
 loop-holds : tie.Need-loop-holds Inv-loop μ-loop
 loop-holds c = tt
@@ -25,18 +25,6 @@ returns-2 c = search needs
 add-end : tie.Need-add-end Inv-loop μ-loop
 add-end c = search needs
 
-mul-query : tie.Need-mul-query Inv-loop μ-loop
-mul-query c = search needs
-
-sub-query : tie.Need-sub-query Inv-loop μ-loop
-sub-query c = search needs
-
-part-query-start : tie.Need-part-query-start Inv-loop μ-loop
-part-query-start c = search needs
-
-part-query-end : tie.Need-part-query-end Inv-loop μ-loop
-part-query-end c = search needs
-
 add-put-asked : tie.Need-add-put-asked Inv-loop μ-loop
 add-put-asked c = search needs
 
@@ -45,6 +33,18 @@ wrapping-add-usize-requires c κs = search needs
 
 put-asked-requires : tie.Need-put-asked-requires Inv-loop μ-loop
 put-asked-requires c κs = search needs
+
+mul-ask : tie.Need-mul-ask Inv-loop μ-loop
+mul-ask c = search needs
+
+sub-ask : tie.Need-sub-ask Inv-loop μ-loop
+sub-ask c = search needs
+
+part-ask-start : tie.Need-part-ask-start Inv-loop μ-loop
+part-ask-start c = search needs
+
+part-ask-end : tie.Need-part-ask-end Inv-loop μ-loop
+part-ask-end c = search needs
 
 add-ask : tie.Need-add-ask Inv-loop μ-loop
 add-ask c = search needs
@@ -75,13 +75,13 @@ ask-all-spec =
     sub-if3
     returns-2
     add-end
-    mul-query
-    sub-query
-    part-query-start
-    part-query-end
     add-put-asked
     wrapping-add-usize-requires
     put-asked-requires
+    mul-ask
+    sub-ask
+    part-ask-start
+    part-ask-end
     add-ask
     ask-requires
     add-i

@@ -6,34 +6,28 @@ use Rattle.name_counters.proofs.put_graph.Statement.{statement}
 use Rattle.name_counters.proofs.put_graph.Tie as tie
 
 abbrev Inv-loop : tie.InvT-loop
-Inv-loop graph n index-size i₀ row₀ column₀ t8 i row column = Unit {0}
+Inv-loop graph n index-size i₀ i = Unit {0}
 
 abbrev μ-loop : tie.MeasureT-loop
-μ-loop graph n index-size i₀ row₀ column₀ t8 i row column = length graph - i
+μ-loop graph n index-size i₀ i = length graph - i
 
-slice-aggregate-say : tie.Need-slice-aggregate-say Inv-loop μ-loop
-slice-aggregate-say c = search needs
-
-say-requires : tie.Need-say-requires Inv-loop μ-loop
-say-requires c κs = search needs
+returns : tie.Need-returns Inv-loop μ-loop
+returns c = search needs
 
 loop-holds : tie.Need-loop-holds Inv-loop μ-loop
 loop-holds c = tt
 
-mul-put-edge : tie.Need-mul-put-edge Inv-loop μ-loop
-mul-put-edge c = search needs
+div-put-edge : tie.Need-div-put-edge Inv-loop μ-loop
+div-put-edge c = search needs
 
-shared-slice-read-put-edge : tie.Need-shared-slice-read-put-edge Inv-loop μ-loop
-shared-slice-read-put-edge c = search needs
+rem-put-edge : tie.Need-rem-put-edge Inv-loop μ-loop
+rem-put-edge c = search needs
+
+whole-requires : tie.Need-whole-requires Inv-loop μ-loop
+whole-requires c κs = search needs
 
 put-edge-requires : tie.Need-put-edge-requires Inv-loop μ-loop
 put-edge-requires c κs = search needs
-
-wrapping-add-usize-requires : tie.Need-wrapping-add-usize-requires Inv-loop μ-loop
-wrapping-add-usize-requires c κs = search needs
-
-wrapping-add-usize-requires-2 : tie.Need-wrapping-add-usize-requires-2 Inv-loop μ-loop
-wrapping-add-usize-requires-2 c κs = search needs
 
 add-i : tie.Need-add-i Inv-loop μ-loop
 add-i c = search needs
@@ -44,14 +38,8 @@ loop-less c = search needs
 loop-again : tie.Need-loop-again Inv-loop μ-loop
 loop-again c = tt
 
-slice-aggregate-say-2 : tie.Need-slice-aggregate-say-2 Inv-loop μ-loop
-slice-aggregate-say-2 c = search needs
-
-say-requires-2 : tie.Need-say-requires-2 Inv-loop μ-loop
-say-requires-2 c κs = search needs
-
-returns : tie.Need-returns Inv-loop μ-loop
-returns c = search needs
+returns-2 : tie.Need-returns-2 Inv-loop μ-loop
+returns-2 c = search needs
 
 pub put-graph-spec : {M : Type 1} → statement M
 put-graph-spec =
@@ -59,17 +47,13 @@ put-graph-spec =
     (tie.spec
     Inv-loop
     μ-loop
-    slice-aggregate-say
-    say-requires
+    returns
     loop-holds
-    mul-put-edge
-    shared-slice-read-put-edge
+    div-put-edge
+    rem-put-edge
+    whole-requires
     put-edge-requires
-    wrapping-add-usize-requires
-    wrapping-add-usize-requires-2
     add-i
     loop-less
     loop-again
-    slice-aggregate-say-2
-    say-requires-2
-    returns)
+    returns-2)

@@ -20,35 +20,29 @@ area-requires-2 c κs = search needs
 least-requires-2 : tie.Need-least-requires-2
 least-requires-2 c κs = search needs
 
-least-requires-3 : tie.Need-least-requires-3
-least-requires-3 c κs = search needs
-
-slice-aggregate-teach : tie.Need-slice-aggregate-teach
-slice-aggregate-teach c = simp length-take (omega arith)
+slice-aggregate-play : tie.Need-slice-aggregate-play
+slice-aggregate-play c = simp length-take (omega arith)
 
 array-borrow-prefix-graph : tie.Need-array-borrow-prefix-graph
 array-borrow-prefix-graph c = search needs
 
-slice-aggregate-teach-2 : tie.Need-slice-aggregate-teach-2
-slice-aggregate-teach-2 c = simp length-take (omega arith)
+slice-aggregate-play-2 : tie.Need-slice-aggregate-play-2
+slice-aggregate-play-2 c = simp length-take (omega arith)
 
-slice-aggregate-teach-3 : tie.Need-slice-aggregate-teach-3
-slice-aggregate-teach-3 c = simp length-take (omega arith)
+mul-play : tie.Need-mul-play
+mul-play c = search needs
 
-mul-teach : tie.Need-mul-teach
-mul-teach c = search needs
+sub-play : tie.Need-sub-play
+sub-play c = search needs
 
-sub-teach : tie.Need-sub-teach
-sub-teach c = search needs
+part-play-start : tie.Need-part-play-start
+part-play-start c = search needs
 
-part-teach-start : tie.Need-part-teach-start
-part-teach-start c = search needs
+part-play-end : tie.Need-part-play-end
+part-play-end c = search needs
 
-part-teach-end : tie.Need-part-teach-end
-part-teach-end c = search needs
-
-teach-requires : tie.Need-teach-requires
-teach-requires c κs = search needs
+play-requires : tie.Need-play-requires
+play-requires c κs = search needs
 
 returns : tie.Need-returns
 returns c = search needs
@@ -62,14 +56,12 @@ with-parts-spec =
     least-requires
     area-requires-2
     least-requires-2
-    least-requires-3
-    slice-aggregate-teach
+    slice-aggregate-play
     array-borrow-prefix-graph
-    slice-aggregate-teach-2
-    slice-aggregate-teach-3
-    mul-teach
-    sub-teach
-    part-teach-start
-    part-teach-end
-    teach-requires
+    slice-aggregate-play-2
+    mul-play
+    sub-play
+    part-play-start
+    part-play-end
+    play-requires
     returns)

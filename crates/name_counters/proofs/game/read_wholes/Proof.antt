@@ -1,32 +1,22 @@
 -- `name_counters::game::read_wholes` is safe and ends. Assumes nothing.
 use mathlib.Core.Path.{_≡_, refl}
 use Prim.Native.Nat.{_-_}
-use native.Mathlib.Omega.{arith}
-use lib.ListN.{length, length-set}
+use lib.ListN.{length}
 use borrow.Author.Needs.{needs}
 use Rattle.name_counters.proofs.game.read_wholes.Statement.{statement}
 use Rattle.name_counters.proofs.game.read_wholes.Tie as tie
 
 abbrev Inv-loop : tie.InvT-loop
-Inv-loop text from out₀ at₀ i₀ out at i = length out ≡ length out₀
+Inv-loop text g first end wholes₀ at₀ i₀ wholes at i = length wholes ≡ length wholes₀
 
 abbrev μ-loop : tie.MeasureT-loop
-μ-loop text from out₀ at₀ i₀ out at i = length out - i
+μ-loop text g first end wholes₀ at₀ i₀ wholes at i = end - i
 
 loop-holds : tie.Need-loop-holds Inv-loop μ-loop
 loop-holds c = refl
 
-next-word-requires : tie.Need-next-word-requires Inv-loop μ-loop
-next-word-requires c κs = search needs
-
-decimal-of-requires : tie.Need-decimal-of-requires Inv-loop μ-loop
-decimal-of-requires c κs = search needs
-
-is-whole-requires : tie.Need-is-whole-requires Inv-loop μ-loop
-is-whole-requires c κs = search needs
-
-read-up-to-requires : tie.Need-read-up-to-requires Inv-loop μ-loop
-read-up-to-requires c κs = search needs
+read-to-requires : tie.Need-read-to-requires Inv-loop μ-loop
+read-to-requires c κs = search needs
 
 same-length : tie.Need-same-length Inv-loop μ-loop
 same-length c = search needs
@@ -34,29 +24,41 @@ same-length c = search needs
 returns : tie.Need-returns Inv-loop μ-loop
 returns c = search needs
 
-mul-out : tie.Need-mul-out Inv-loop μ-loop
-mul-out c = search needs
+next-word-requires : tie.Need-next-word-requires Inv-loop μ-loop
+next-word-requires c κs = search needs
 
-slice-write-out : tie.Need-slice-write-out Inv-loop μ-loop
-slice-write-out c = search needs
-
-add-i : tie.Need-add-i Inv-loop μ-loop
-add-i c = search needs
-
-loop-less : tie.Need-loop-less Inv-loop μ-loop
-loop-less c = simp length-set (omega arith)
-
-loop-again : tie.Need-loop-again Inv-loop μ-loop
-loop-again c = simp length-set (c .before .before .before .before .before .loop .inv)
-
-read-up-to-requires-2 : tie.Need-read-up-to-requires-2 Inv-loop μ-loop
-read-up-to-requires-2 c κs = search needs
+read-to-requires-2 : tie.Need-read-to-requires-2 Inv-loop μ-loop
+read-to-requires-2 c κs = search needs
 
 same-length-2 : tie.Need-same-length-2 Inv-loop μ-loop
 same-length-2 c = search needs
 
 returns-2 : tie.Need-returns-2 Inv-loop μ-loop
 returns-2 c = search needs
+
+mul-wholes : tie.Need-mul-wholes Inv-loop μ-loop
+mul-wholes c = search needs
+
+slice-write-wholes : tie.Need-slice-write-wholes Inv-loop μ-loop
+slice-write-wholes c = search needs
+
+add-i : tie.Need-add-i Inv-loop μ-loop
+add-i c = search needs
+
+loop-less : tie.Need-loop-less Inv-loop μ-loop
+loop-less c = search needs
+
+loop-again : tie.Need-loop-again Inv-loop μ-loop
+loop-again c = search needs
+
+read-to-requires-3 : tie.Need-read-to-requires-3 Inv-loop μ-loop
+read-to-requires-3 c κs = search needs
+
+same-length-3 : tie.Need-same-length-3 Inv-loop μ-loop
+same-length-3 c = search needs
+
+returns-3 : tie.Need-returns-3 Inv-loop μ-loop
+returns-3 c = search needs
 
 pub read-wholes-spec : {M : Type 1} → statement M
 read-wholes-spec =
@@ -65,17 +67,18 @@ read-wholes-spec =
     Inv-loop
     μ-loop
     loop-holds
-    next-word-requires
-    decimal-of-requires
-    is-whole-requires
-    read-up-to-requires
+    read-to-requires
     same-length
     returns
-    mul-out
-    slice-write-out
+    next-word-requires
+    read-to-requires-2
+    same-length-2
+    returns-2
+    mul-wholes
+    slice-write-wholes
     add-i
     loop-less
     loop-again
-    read-up-to-requires-2
-    same-length-2
-    returns-2)
+    read-to-requires-3
+    same-length-3
+    returns-3)

@@ -16,9 +16,6 @@ loop-holds c = tt
 next-word-requires : tie.Need-next-word-requires Inv-loop μ-loop
 next-word-requires c κs = search needs
 
-is-none-requires : tie.Need-is-none-requires Inv-loop μ-loop
-is-none-requires c κs = search needs
-
 returns : tie.Need-returns Inv-loop μ-loop
 returns c = search needs
 
@@ -42,7 +39,6 @@ count-words-spec =
     μ-loop
     loop-holds
     next-word-requires
-    is-none-requires
     returns
     add-count
     loop-less

@@ -1,24 +1,24 @@
--- `name_counters::lines::word_end` is safe and ends. Assumes nothing.
+-- `name_counters::lines::find` is safe and ends. Assumes nothing.
 use Prim.Native.Nat.{_-_}
 use lib.ListN.{length}
 use borrow.Author.Needs.{needs}
-use Rattle.name_counters.proofs.lines.word_end.Statement.{statement}
-use Rattle.name_counters.proofs.lines.word_end.Tie as tie
+use Rattle.name_counters.proofs.lines.find.Statement.{statement}
+use Rattle.name_counters.proofs.lines.find.Tie as tie
 
 abbrev Inv-loop : tie.InvT-loop
-Inv-loop text from at₀ at = Unit {0}
+Inv-loop text from what at₀ at = Unit {0}
 
 abbrev μ-loop : tie.MeasureT-loop
-μ-loop text from at₀ at = length text - at
+μ-loop text from what at₀ at = length text - at
 
 loop-holds : tie.Need-loop-holds Inv-loop μ-loop
 loop-holds c = tt
 
-shared-slice-read-ends-word : tie.Need-shared-slice-read-ends-word Inv-loop μ-loop
-shared-slice-read-ends-word c = search needs
+shared-slice-read-stops : tie.Need-shared-slice-read-stops Inv-loop μ-loop
+shared-slice-read-stops c = search needs
 
-ends-word-requires : tie.Need-ends-word-requires Inv-loop μ-loop
-ends-word-requires c κs = search needs
+stops-requires : tie.Need-stops-requires Inv-loop μ-loop
+stops-requires c κs = search needs
 
 returns : tie.Need-returns Inv-loop μ-loop
 returns c = search needs
@@ -35,15 +35,15 @@ loop-again c = tt
 returns-2 : tie.Need-returns-2 Inv-loop μ-loop
 returns-2 c = search needs
 
-pub word-end-spec : {M : Type 1} → statement M
-word-end-spec =
+pub find-spec : {M : Type 1} → statement M
+find-spec =
     tie.close
     (tie.spec
     Inv-loop
     μ-loop
     loop-holds
-    shared-slice-read-ends-word
-    ends-word-requires
+    shared-slice-read-stops
+    stops-requires
     returns
     add-at
     loop-less
