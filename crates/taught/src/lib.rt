@@ -1,6 +1,6 @@
 // Step 1 of build for every node: the exact lists one behind the other in one slice.
 ghost use mathlib.Core.Path.{_≡_};
-ghost use Prim.Native.Nat.{_+_, _*_, _≤_, _<_};
+ghost use Prim.Native.Nat.{_+_, _*_, _≤_, _<_, min};
 ghost use lib.ListN.{length};
 ghost use Rattle.rules.specs.Distance.{between};
 ghost use Rattle.taught.specs.Taught.{Taught, eightIn, HoldsEight, Ranged};
@@ -70,7 +70,7 @@ fn lists_of(rows: &[f32], n: usize, init_k: usize, base: usize, end: usize, list
 // Where the eight nodes from `base` on end, or all.
 fn end_of(n: usize, base: usize) -> usize
     requires { ⌜ base < n ⌝ }
-    ensures { λ r. ⌜ (base < r) × (r ≤ n) × (r ≤ base + 8) ⌝ }
+    ensures { λ r. ⌜ (base < r) × (r ≤ n) × (r ≤ base + 8) × (r ≡ min (base + 8) n) ⌝ }
 {
     if 8 < n - base {
         return base + 8;
