@@ -210,7 +210,7 @@ fn scale(shape: u32) -> f32 {
 /// The binary32 number nearest to a decimal: both sides of the division are exact, so that it alone rounds.
 pub fn value(text: &[u8], w: Word) -> f32 {
     if w.spelt == NAN {
-        return refusals::nan();
+        return refusals::float_of(0x7FC0_0000);
     }
     let x = std::num::nearest_u32_to_f32(w.digits) / scale(w.shape);
     let at = w.start;
