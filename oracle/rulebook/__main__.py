@@ -58,8 +58,8 @@ def stated(path):
 
 def write(w, folder):
     unfolding = "unfolding " + " ".join(unfoldables())
-    # The rulebook's modules are used behind the first part of computed.antt, which ends at an empty line.
-    head, helpers = text_of(HERE, "computed.antt").split("\n\n", 1)
+    # The rulebook's modules are used behind the first part of computed.txt, which ends at an empty line.
+    head, helpers = text_of(HERE, "computed.txt").split("\n\n", 1)
     uses = "".join(f"use Rattle.rules.specs.{m} as {m}\n" for m in modules())
     lines = [f"{head}\n{uses}\n{helpers}"]
     for name, left, right in w.out:
