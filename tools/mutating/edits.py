@@ -14,7 +14,7 @@ RULE_OPERATORS = {
     "&&": ["||"], "||": ["&&"], "+": ["-"], "-": ["+"], "*": ["+"], "%": ["+"], "≤": ["<"], "<": ["≤"],
 }
 RULE_WORDS = {
-    "leb": ["ltb"], "ltb": ["leb"], "eqb": ["leb"], "true": ["false"], "false": ["true"], "take": ["drop"], "drop": ["take"], "not": ["id"],
+    "leb": ["ltb"], "ltb": ["leb"], "eqb": ["leb"], "true": ["false"], "false": ["true"], "take": ["drop"], "drop": ["take"],
     "lt": ["le"], "eq": ["lt"], "add": ["sub"], "sub": ["add"], "mul": ["add"], "div": ["mul"],
 }
 COMPARED = re.compile(r"(<=|>=|<|>|==|!=|leb|ltb|outside|≤) ?[(]?$")
@@ -173,9 +173,11 @@ def rule_moves(text, start, end):
 
 def of_rules(file, text):
     plain = re.sub(r"--[^\n]*", lambda m: "~" * len(m.group(0)), text)
+    # a word that the file does not bring in would give no definition
+    usable = {old: [new for new in others if re.search(r"(?<![\w-])%s(?![\w-])" % new, plain)] for old, others in RULE_WORDS.items()}
     for name, typed, start, end in list(clauses(plain)) + list(fields(plain)):
         found = list(swapped_words(plain, start, end, RULE_OPERATORS, r"(?<= )([&|+*%≤<-]{1,2})(?= )", "operator"))
-        found += swapped_words(plain, start, end, RULE_WORDS, r"(?<![\w'.-])([a-z]+)(?![\w'-])", "operator")
+        found += swapped_words(plain, start, end, usable, r"(?<![\w'.-])([a-z]+)(?![\w'-])", "operator")
         found += numbers(plain, start, end)
         found += same_kind(plain, start, end, typed)
         found += rule_moves(plain, start, end)
