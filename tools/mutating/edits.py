@@ -76,7 +76,7 @@ def same_kind(text, start, end, typed):
 
 def statements(text, start, end):
     """Simple statements of one line, with their indentation, but no steps of a counter."""
-    for m in re.finditer(r"^( +)([^\s/].*;)\n", text[start:end], re.M):
+    for m in re.finditer(r"^( +)([\w*].*;)\n", text[start:end], re.M):
         if not m.group(2).startswith(("let ", "return", "break")) and not re.match(r"\w+ [+-]= \w+;", m.group(2)):
             yield start + m.start(), start + m.end(), len(m.group(1)), m.group(0)
 
