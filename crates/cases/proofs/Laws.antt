@@ -2,7 +2,7 @@
 use mathlib.Core.Path.{_≡_, refl, sym, ap, _∙_}
 use mathlib.Core.Bool.{Bool, true, false, _&&_}
 use mathlib.Core.List.{List, [], _∷_, _++_, append-assoc, append-nil}
-use Prim.Native.Nat.{ℕ, suc, _+_, _-_, _*_, _≤_, _<_}
+use Prim.Native.Nat.{ℕ, zero, suc, _+_, _-_, _*_, _≤_, _<_}
 use native.Mathlib.Numerals.{add-one}
 use lib.Dec.{leb}
 use native.Mathlib.Omega.{arith}
@@ -13,7 +13,7 @@ use Rattle.cases.specs.declared.Cursor.{Cursor}
 use Rattle.cases.specs.declared.Digits.{Digits}
 use Rattle.cases.specs.declared.Word.{Word}
 use Rattle.cases.specs.declared.Token.the-variants.{Number, End, TooLarge, Strange}
-use Rattle.cases.specs.Text.{within, after, skipped, digitOf, digitsOf, limit, counted, ended, tokenOf, tokenFrom, tokenAt, wordAt, wordsAt, behind}
+use Rattle.cases.specs.Text.{within, after, skipped, digitOf, digitsOf, limit, counted, ended, tokenOf, tokenFrom, tokenAt, wordAt, wordsAt, floatOf, floatsAt, behind}
 
 both : (x y : Bool) → x && y ≡ true → (x ≡ true) × (y ≡ true)
 both true y e = (refl, e)
@@ -93,47 +93,85 @@ words-turn n i text c w e h =
     let less : n - i ≡ suc (n - (i + 1)) = omega arith in
     ap (λ (k : ℕ). wordsAt k text c) less ∙ ap (λ (v : Word). v .value ∷ wordsAt (n - (i + 1)) text (v .cursor)) (sym e)
 
--- A slice filled with the next numbers from the front: the first `i` places are written, and what is left says what the whole says.
-pub record Filling (text : List ℕ) (out₀ : List ℕ) (c₀ : Cursor) (out : List ℕ) (i : ℕ) (c : Cursor) : Type 0 where
-  pub long : length out ≡ length out₀
-  pub within : i ≤ length out
-  pub list : take i out ++ wordsAt (length out - i) text c ≡ wordsAt (length out₀) text c₀
-  pub place : behind (length out - i) text c ≡ behind (length out₀) text c₀
+pub floats-turn :
+    (n i : ℕ) (text : List ℕ) (c : Cursor) (w : Word) → w ≡ wordAt text c → i < n
+    → floatsAt (n - i) text c ≡ floatOf (w .value) ∷ floatsAt (n - (i + 1)) text (w .cursor)
+unfolding floatsAt
+floats-turn n i text c w e h =
+    let less : n - i ≡ suc (n - (i + 1)) = omega arith in
+    ap (λ (k : ℕ). floatsAt k text c) less
+    ∙ ap (λ (v : Word). floatOf (v .value) ∷ floatsAt (n - (i + 1)) text (v .cursor)) (sym e)
 
-module _ (text : List ℕ) (out₀ : List ℕ) (c₀ : Cursor) where
-  pub filling-none : Filling text out₀ c₀ out₀ 0 c₀
-  filling-none =
-      let e : length out₀ - 0 ≡ length out₀ = omega arith in
-      record {
-        long = refl;
-        within = omega arith;
-        list = ap (λ (n : ℕ). wordsAt n text c₀) e;
-        place = ap (λ (n : ℕ). behind n text c₀) e;
-      }
+pub words-none : (text : List ℕ) (c : Cursor) → wordsAt 0 text c ≡ []
+unfolding wordsAt
+words-none text c = refl
 
-  module _ (out : List ℕ) (i : ℕ) (c : Cursor) (inv : Filling text out₀ c₀ out i c) where
-    pub filling-turn :
-        (w : Word) → w ≡ wordAt text c → i < length out → Filling text out₀ c₀ (set out i (w .value)) (i + 1) (w .cursor)
-    unfolding behind
-    filling-turn w e h =
-        let m = length out - (i + 1) in
-        let less : length out - i ≡ suc m = omega arith in
-        let long = length-set out i (w .value) in
-        let here = words-turn (length out) i text c w e h in
-        let there : behind (length out - i) text c ≡ behind m text (w .cursor) =
-        ap (λ (n : ℕ). behind n text c) less ∙ ap (λ (v : Word). behind m text (v .cursor)) (sym e) in
-        let front : take (i + 1) (set out i (w .value)) ≡ take i out ++ (w .value ∷ []) = rw (add-one, take-suc-set out i (w .value)) in
+pub floats-none : (text : List ℕ) (c : Cursor) → floatsAt 0 text c ≡ []
+unfolding floatsAt
+floats-none text c = refl
+
+-- Behind a fault nothing is read.
+pub behind-fault : (n : ℕ) (text : List ℕ) (c : Cursor) → (c .fault ≡ 0 → ⊥) → behind n text c ≡ c
+unfolding behind wordAt
+behind-fault zero text c h = refl
+behind-fault (suc n) text c h = rw (ne-eqb (c .fault) 0 h) (behind-fault n text c h)
+
+pub behind-turn :
+    (n : ℕ) (text : List ℕ) (c : Cursor) (w : Word) → w ≡ wordAt text c → 0 < n → behind (n - 1) text (w .cursor) ≡ behind n text c
+unfolding behind
+behind-turn n text c w e h =
+    let less : n ≡ suc (n - 1) = omega arith in
+    sym (ap (λ (k : ℕ). behind k text c) less ∙ ap (λ (v : Word). behind (n - 1) text (v .cursor)) (sym e))
+
+pub behind-none : (n : ℕ) (text : List ℕ) (c : Cursor) → n ≤ 0 → c ≡ behind n text c
+unfolding behind
+behind-none n text c h =
+    let none : 0 ≡ n = omega arith in
+    ap (λ (k : ℕ). behind k text c) none
+
+-- A slice filled with the next numbers from the front, `listed` as words or as floats: the first `i` places are written, and what is left says what the whole says.
+module _ {A : Type 0} (listed : ℕ → List ℕ → Cursor → List A) where
+  pub record Filling (text : List ℕ) (out₀ : List A) (c₀ : Cursor) (out : List A) (i : ℕ) (c : Cursor) : Type 0 where
+    pub long : length out ≡ length out₀
+    pub within : i ≤ length out
+    pub list : take i out ++ listed (length out - i) text c ≡ listed (length out₀) text c₀
+    pub place : behind (length out - i) text c ≡ behind (length out₀) text c₀
+
+  module _ (text : List ℕ) (out₀ : List A) (c₀ : Cursor) where
+    pub filling-none : Filling text out₀ c₀ out₀ 0 c₀
+    filling-none =
+        let e : length out₀ - 0 ≡ length out₀ = omega arith in
         record {
-          long = long ∙ inv .long;
+          long = refl;
           within = omega arith;
-          list = rw (long, front, append-assoc) (ap (λ (l : List ℕ). take i out ++ l) (sym here) ∙ inv .list);
-          place = rw long (sym there ∙ inv .place);
+          list = ap (λ (n : ℕ). listed n text c₀) e;
+          place = ap (λ (n : ℕ). behind n text c₀) e;
         }
 
-    pub filling-end : length out ≤ i → (out ≡ wordsAt (length out₀) text c₀) × (c ≡ behind (length out₀) text c₀)
-    unfolding wordsAt behind
-    filling-end h =
-        let none : length out - i ≡ 0 = omega arith in
-        let list : take i out ++ [] ≡ wordsAt (length out₀) text c₀ = rw none at (inv .list) in
-        let place : c ≡ behind (length out₀) text c₀ = rw none at (inv .place) in
-        (sym (take-all i out h) ∙ sym (append-nil (take i out)) ∙ list, place)
+    module _ (out : List A) (i : ℕ) (c : Cursor) (inv : Filling text out₀ c₀ out i c) where
+      pub filling-turn :
+          (w : Word) → w ≡ wordAt text c → (x : A) → listed (length out - i) text c ≡ x ∷ listed (length out - (i + 1)) text (w .cursor)
+          → i < length out → Filling text out₀ c₀ (set out i x) (i + 1) (w .cursor)
+      unfolding behind
+      filling-turn w e x here h =
+          let m = length out - (i + 1) in
+          let less : length out - i ≡ suc m = omega arith in
+          let long = length-set out i x in
+          let there : behind (length out - i) text c ≡ behind m text (w .cursor) =
+          ap (λ (n : ℕ). behind n text c) less ∙ ap (λ (v : Word). behind m text (v .cursor)) (sym e) in
+          let front : take (i + 1) (set out i x) ≡ take i out ++ (x ∷ []) = rw (add-one, take-suc-set out i x) in
+          record {
+            long = long ∙ inv .long;
+            within = omega arith;
+            list = rw (long, front, append-assoc) (ap (λ (l : List A). take i out ++ l) (sym here) ∙ inv .list);
+            place = rw long (sym there ∙ inv .place);
+          }
+
+      pub filling-end :
+          listed 0 text c ≡ [] → length out ≤ i → (out ≡ listed (length out₀) text c₀) × (c ≡ behind (length out₀) text c₀)
+      unfolding behind
+      filling-end empty h =
+          let none : length out - i ≡ 0 = omega arith in
+          let list : take i out ++ [] ≡ listed (length out₀) text c₀ = rw (none, empty) at (inv .list) in
+          let place : c ≡ behind (length out₀) text c₀ = rw none at (inv .place) in
+          (sym (take-all i out h) ∙ sym (append-nil (take i out)) ∙ list, place)

@@ -2,8 +2,9 @@
 use mathlib.Core.Bool.{Bool, cond, _&&_, _||_}
 use mathlib.Core.List.{List, [], _∷_}
 use Prim.Native.Nat.{ℕ, zero, suc, _+_, _-_, _*_, _%_, _^_}
-use lib.Dec.{leb, eqb}
+use lib.Dec.{leb, ltb, eqb}
 use lib.ListN.{length, drop}
+use lib.Ieee.{Float, binary32, ofBits}
 use Rattle.cases.specs.declared.Cursor.{Cursor}
 use Rattle.cases.specs.declared.Digits.{Digits}
 use Rattle.cases.specs.declared.Token.{Token}
@@ -112,3 +113,12 @@ wordsAt (suc n) text c = let w = wordAt text c in w .value ∷ wordsAt n text (w
 unfoldable pub behind : ℕ → List ℕ → Cursor → Cursor
 behind zero text c = c
 behind (suc n) text c = behind n text (wordAt text c .cursor)
+
+-- The float of some bits, and 0.0 where they are a NaN's: above those of an infinity, but for the sign
+unfoldable pub floatOf : ℕ → Float
+floatOf bits = ofBits binary32 (cond (ltb 0x7F800000 (bits % 0x80000000)) 0 bits)
+
+-- The next n numbers as the bits of floats
+unfoldable pub floatsAt : ℕ → List ℕ → Cursor → List Float
+floatsAt zero text c = []
+floatsAt (suc n) text c = let w = wordAt text c in floatOf (w .value) ∷ floatsAt n text (w .cursor)

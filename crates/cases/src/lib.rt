@@ -2,7 +2,7 @@
 ghost use mathlib.Core.Path.{_≡_};
 ghost use Prim.Native.Nat.{_≤_};
 ghost use lib.ListN.{length, drop};
-ghost use Rattle.cases.specs.Text.{within, separates, after, skipped, digitOf, digitsOf, tokenAt, faulted, wordAt, wordsAt, behind, first};
+ghost use Rattle.cases.specs.Text.{within, separates, after, skipped, digitOf, digitsOf, tokenAt, faulted, wordAt, wordsAt, floatOf, floatsAt, behind, first};
 
 /// A place in a list, the numbers read up to it with their sum modulo 2^32, and what went wrong
 /// first (`FINE` where nothing did).
@@ -304,7 +304,9 @@ pub fn least(a: usize, b: usize) -> usize
 }
 
 /// Passes the next `n` numbers.
-pub fn pass(text: &[u8], c: Cursor, n: usize) -> Cursor {
+pub fn pass(text: &[u8], c: Cursor, n: usize) -> Cursor
+    ensures { λ r. ⌜ r ≡ behind n (now (text .entry)) c ⌝ }
+{
     let mut left = n;
     let mut cursor = c;
     while left > 0 {
@@ -335,7 +337,9 @@ pub fn read_words(text: &[u8], c: Cursor, out: &mut [u32]) -> Cursor
 }
 
 /// The float of some bits, and 0.0 where they are a NaN's.
-pub fn float(bits: u32) -> f32 {
+pub fn float(bits: u32) -> f32
+    ensures { λ r. ⌜ r ≡ floatOf bits ⌝ }
+{
     if bits % 0x8000_0000 > 0x7F80_0000 {
         return 0.0;
     }
@@ -343,7 +347,10 @@ pub fn float(bits: u32) -> f32 {
 }
 
 /// Fills the slice with the next numbers, as the bits of floats.
-pub fn read_floats(text: &[u8], c: Cursor, out: &mut [f32]) -> Cursor {
+pub fn read_floats(text: &[u8], c: Cursor, out: &mut [f32]) -> Cursor
+    ensures { λ _. ⌜ now (out .exit) ≡ floatsAt (length (now (out .entry))) (now (text .entry)) c ⌝ }
+    ensures { λ r. ⌜ r ≡ behind (length (now (out .entry))) (now (text .entry)) c ⌝ }
+{
     let mut i: usize = 0;
     let mut cursor = c;
     while i < out.len() {

@@ -1,20 +1,24 @@
--- `cases::read_floats` is safe and ends. Assumes nothing.
-use mathlib.Core.Path.{_≡_, refl}
+-- `cases::read_floats` meets its contract. Assumes nothing.
+use mathlib.Core.Path.{_∙_, ap}
+use mathlib.Core.List.{List, _∷_}
 use Prim.Native.Nat.{_-_}
 use native.Mathlib.Omega.{arith}
 use lib.ListN.{length, length-set}
+use lib.Ieee.{Float}
+use Rattle.cases.specs.Text.{floatsAt}
+use Rattle.cases.proofs.Laws.{floats-turn, floats-none, Filling, filling-none, filling-turn, filling-end}
 use borrow.Author.Needs.{needs}
 use Rattle.cases.proofs.read_floats.Statement.{statement}
 use Rattle.cases.proofs.read_floats.Tie as tie
 
 abbrev Inv-loop : tie.InvT-loop
-Inv-loop text out₀ i₀ cursor₀ out i cursor = length out ≡ length out₀
+Inv-loop text out₀ i₀ cursor₀ out i cursor = Filling floatsAt text out₀ cursor₀ out i cursor
 
 abbrev μ-loop : tie.MeasureT-loop
 μ-loop text out₀ i₀ cursor₀ out i cursor = length out - i
 
 loop-holds : tie.Need-loop-holds Inv-loop μ-loop
-loop-holds c = refl
+loop-holds c = filling-none floatsAt _ _ _
 
 read-word-requires : tie.Need-read-word-requires Inv-loop μ-loop
 read-word-requires c κs = search needs
@@ -35,13 +39,16 @@ loop-less : tie.Need-loop-less Inv-loop μ-loop
 loop-less c = simp length-set (omega arith)
 
 loop-again : tie.Need-loop-again Inv-loop μ-loop
-loop-again c = simp length-set (c .before .before .before .before .loop .inv)
+loop-again c =
+    let f = c .before in
+    let w = f .before in
+    filling-turn floatsAt _ _ _ _ _ _ (w .before .before .loop .inv) (w .read-word .result) (w .read-word .ensures) (f .float .result) (rw (f .float .ensures) (floats-turn _ _ _ _ _ (w .read-word .ensures) (search needs))) (search needs)
 
 same-length : tie.Need-same-length Inv-loop μ-loop
-same-length c = c .before .loop .inv
+same-length c = c .before .loop .inv .long
 
 returns : tie.Need-returns Inv-loop μ-loop
-returns c = search needs
+returns c = filling-end floatsAt _ _ _ _ _ _ (c .before .loop .inv) (floats-none _ _) (search needs)
 
 pub read-floats-spec : {M : Type 1} → statement M
 read-floats-spec =

@@ -2,19 +2,20 @@
 use Prim.Native.Nat.{_-_}
 use native.Mathlib.Omega.{arith}
 use lib.ListN.{length, length-set}
-use Rattle.cases.proofs.Laws.{Filling, filling-none, filling-turn, filling-end}
+use Rattle.cases.specs.Text.{wordsAt}
+use Rattle.cases.proofs.Laws.{words-turn, words-none, Filling, filling-none, filling-turn, filling-end}
 use borrow.Author.Needs.{needs}
 use Rattle.cases.proofs.read_words.Statement.{statement}
 use Rattle.cases.proofs.read_words.Tie as tie
 
 abbrev Inv-loop : tie.InvT-loop
-Inv-loop text out₀ i₀ cursor₀ out i cursor = Filling text out₀ cursor₀ out i cursor
+Inv-loop text out₀ i₀ cursor₀ out i cursor = Filling wordsAt text out₀ cursor₀ out i cursor
 
 abbrev μ-loop : tie.MeasureT-loop
 μ-loop text out₀ i₀ cursor₀ out i cursor = length out - i
 
 loop-holds : tie.Need-loop-holds Inv-loop μ-loop
-loop-holds c = filling-none _ _ _
+loop-holds c = filling-none wordsAt _ _ _
 
 read-word-requires : tie.Need-read-word-requires Inv-loop μ-loop
 read-word-requires c κs = search needs
@@ -34,13 +35,13 @@ loop-less c = simp length-set (omega arith)
 loop-again : tie.Need-loop-again Inv-loop μ-loop
 loop-again c =
     let w = c .before in
-    filling-turn _ _ _ _ _ _ (w .before .before .loop .inv) (w .read-word .result) (w .read-word .ensures) (search needs)
+    filling-turn wordsAt _ _ _ _ _ _ (w .before .before .loop .inv) (w .read-word .result) (w .read-word .ensures) _ (words-turn _ _ _ _ _ (w .read-word .ensures) (search needs)) (search needs)
 
 same-length : tie.Need-same-length Inv-loop μ-loop
 same-length c = c .before .loop .inv .long
 
 returns : tie.Need-returns Inv-loop μ-loop
-returns c = filling-end _ _ _ _ _ _ (c .before .loop .inv) (search needs)
+returns c = filling-end wordsAt _ _ _ _ _ _ (c .before .loop .inv) (words-none _ _) (search needs)
 
 pub read-words-spec : {M : Type 1} → statement M
 read-words-spec =
