@@ -4,6 +4,8 @@ use mathlib.Core.List.{List, [], _∷_}
 use Prim.Native.Nat.{ℕ, zero, suc, _+_, _%_, _^_}
 use lib.Dec.{eqb, ltb}
 use lib.Ieee.{Float, binary32, add, ofBits, ne}
+use Rattle.refusals.specs.declared.Left.{Left}
+use Rattle.refusals.specs.declared.Left.the-variants.{Untouched, Zeroed, Written}
 
 module _ {A : Type 0} (next : A → A) where
   -- v, and in each further place the next
@@ -32,3 +34,19 @@ wordsStand from i v xs = stands nextWord differs from i v xs
 
 abbrev pub floatsStand : ℕ → Float → List Float → Bool
 floatsStand i v xs = stands nextFloat ne 0 i v xs
+
+-- What the first place of each scratch slice holds: the float is 1.5
+abbrev pub junkWord : ℕ
+junkWord = 0xEF000000
+
+abbrev pub junkFloat : Float
+junkFloat = ofBits binary32 0x3FC00000
+
+-- Whether both scratch slices hold what they were filled with
+unfoldable pub scratchStands : List ℕ → List Float → Bool
+scratchStands words floats = cond (wordsStand 0 0 junkWord words) (floatsStand 0 junkFloat floats) false
+
+unfoldable pub untouched : Left → Bool
+untouched Untouched = true
+untouched Zeroed = false
+untouched Written = false

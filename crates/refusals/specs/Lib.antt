@@ -1,2 +1,3 @@
--- `Junk`: what lent places hold before a call, and whether it stands.
+-- `Junk`: what lent places hold before a call, and whether it stands. `Given`: a case's numbers, and a refusal's.
+pub mod Given
 pub mod Junk

@@ -1,8 +1,13 @@
 // The common ground of the refusal tests: a case's numbers and runs, junk in lent places, what became of it after a call, and the parts of a line.
 ghost use mathlib.Core.Path.{_≡_};
+ghost use mathlib.Core.Bool.{true};
 ghost use Prim.Native.Nat.{_≤_};
 ghost use lib.ListN.{length};
-ghost use Rattle.refusals.specs.Junk.{rising, nextWord, nextFloat, wordsStand, floatsStand};
+ghost use Rattle.rules.specs.Refusals.{code, codeOf};
+ghost use Rattle.replays.specs.Compare.{holdsOnly};
+ghost use Rattle.refusals.specs.declared.Left.the-variants.{Zeroed};
+ghost use Rattle.refusals.specs.Junk.{rising, nextWord, nextFloat, wordsStand, floatsStand, junkWord, junkFloat, scratchStands, untouched};
+ghost use Rattle.refusals.specs.Given.{wideOf, codeIn, bitsOf};
 use cases::Cursor;
 use cases::Size;
 use libc::STDOUT_FILENO;
@@ -28,7 +33,9 @@ pub enum Left {
 }
 
 /// A number of a case; the largest word stands for the largest.
-pub fn wide(word: u32) -> usize {
+pub fn wide(word: u32) -> usize
+    ensures { λ r. ⌜ r ≡ wideOf word ⌝ }
+{
     if word == 0xFFFF_FFFF {
         return 18446744073709551615;
     }
@@ -36,7 +43,9 @@ pub fn wide(word: u32) -> usize {
 }
 
 /// The float of a case's bits, a NaN too.
-pub fn float_of(bits: u32) -> f32 {
+pub fn float_of(bits: u32) -> f32
+    ensures { λ r. ⌜ r ≡ bitsOf bits ⌝ }
+{
     if bits == 0x7FC0_0000 {
         let zero = 0.0f32;
         return zero / zero;
@@ -104,7 +113,10 @@ pub fn fill_floats(xs: &mut [f32], first: f32)
 }
 
 /// Fills both scratch slices with junk.
-pub fn fill_scratch(words: &mut [u32], floats: &mut [f32]) {
+pub fn fill_scratch(words: &mut [u32], floats: &mut [f32])
+    ensures { λ _. ⌜ now (words .exit) ≡ rising nextWord junkWord (length (now (words .entry))) ⌝ }
+    ensures { λ _. ⌜ now (floats .exit) ≡ rising nextFloat junkFloat (length (now (floats .entry))) ⌝ }
+{
     fill_words(words, WORDS);
     fill_floats(floats, FLOATS);
 }
@@ -143,14 +155,18 @@ fn kept_floats(xs: &[f32], first: f32) -> bool
     true
 }
 
-fn kept(words: &[u32], floats: &[f32]) -> bool {
+fn kept(words: &[u32], floats: &[f32]) -> bool
+    ensures { λ r. ⌜ r ≡ scratchStands (now (words .entry)) (now (floats .entry)) ⌝ }
+{
     if kept_words(words, 0, WORDS) {
         return kept_floats(floats, FLOATS);
     }
     false
 }
 
-fn zeroed(words: &[u32], floats: &[f32]) -> bool {
+fn zeroed(words: &[u32], floats: &[f32]) -> bool
+    ensures { λ r. ⌜ (r ≡ true → holdsOnly 0 (now (words .entry)) ≡ true) ⌝ }
+{
     if replays::all_words(words, 0, 0) {
         return replays::all_zero(floats);
     }
@@ -158,7 +174,10 @@ fn zeroed(words: &[u32], floats: &[f32]) -> bool {
 }
 
 /// What became of both scratch slices after `fill_scratch` and a call.
-pub fn scratch_left(words: &[u32], floats: &[f32]) -> Left {
+pub fn scratch_left(words: &[u32], floats: &[f32]) -> Left
+    ensures { λ r. ⌜ untouched r ≡ scratchStands (now (words .entry)) (now (floats .entry)) ⌝ }
+    ensures { λ r. ⌜ (r ≡ Zeroed → holdsOnly 0 (now (words .entry)) ≡ true) ⌝ }
+{
     if kept(words, floats) {
         return Left::Untouched;
     }
@@ -168,7 +187,9 @@ pub fn scratch_left(words: &[u32], floats: &[f32]) -> Left {
     Left::Written
 }
 
-fn coded(number: usize, first: usize, second: usize) -> Code {
+fn coded(number: usize, first: usize, second: usize) -> Code
+    ensures { λ r. ⌜ codeIn r ≡ code number first second ⌝ }
+{
     Code {
         number: number,
         first: first,
@@ -177,7 +198,9 @@ fn coded(number: usize, first: usize, second: usize) -> Code {
 }
 
 /// The number and places of a refusal.
-pub fn code_of(r: Refusal) -> Code {
+pub fn code_of(r: Refusal) -> Code
+    ensures { λ s. ⌜ codeIn s ≡ codeOf r ⌝ }
+{
     match r {
         Refusal::Dimension => coded(1, 0, 0),
         Refusal::Nodes => coded(2, 0, 0),
