@@ -13,7 +13,7 @@ use Rattle.cases.specs.declared.Cursor.{Cursor}
 use Rattle.cases.specs.declared.Digits.{Digits}
 use Rattle.cases.specs.declared.Word.{Word}
 use Rattle.cases.specs.declared.Token.the-variants.{Number, End, TooLarge, Strange}
-use Rattle.cases.specs.Text.{within, after, skipped, digitOf, digitsOf, limit, counted, ended, tokenOf, tokenFrom, tokenAt, wordAt, wordsAt, floatOf, floatsAt, behind}
+use Rattle.cases.specs.Text.{within, after, skipped, digitOf, digitsOf, limit, counted, ended, tokenOf, tokenFrom, tokenAt, faulted, wordAt, sizeOf, sizeAt, wordsAt, floatOf, floatsAt, behind}
 
 both : (x y : Bool) → x && y ≡ true → (x ≡ true) × (y ≡ true)
 both true y e = (refl, e)
@@ -83,6 +83,17 @@ module _ (text : List ℕ) (c : Cursor) (start : ℕ) (e : start ≡ skipped 0 (
       unfolding tokenAt tokenFrom tokenOf
       token-number h =
           rw (← e, ← read, lt-leb (length text) start inside, ne-eqb (d .at) start some, lt-leb limit (d .value) h)
+
+-- The ways out of `read_size`
+module _ (most : ℕ) (text : List ℕ) (c : Cursor) (w : Word) (e : w ≡ wordAt text c) where
+  pub size-fits : w .value ≤ most → record { value = w .value; cursor = w .cursor } ≡ sizeAt most text c
+  unfolding sizeAt sizeOf
+  size-fits h = rw (← e, le-leb (w .value) most h)
+
+  pub size-large :
+      (c′ : Cursor) → c′ ≡ faulted (w .cursor) 4 → most < w .value → record { value = 0; cursor = c′ } ≡ sizeAt most text c
+  unfolding sizeAt sizeOf
+  size-large c′ f h = rw (← e, lt-leb (w .value) most h, f)
 
 -- The next of the numbers that are left
 pub words-turn :

@@ -9,6 +9,7 @@ use Rattle.cases.specs.declared.Cursor.{Cursor}
 use Rattle.cases.specs.declared.Digits.{Digits}
 use Rattle.cases.specs.declared.Token.{Token}
 use Rattle.cases.specs.declared.Word.{Word}
+use Rattle.cases.specs.declared.Size.{Size}
 use Rattle.cases.specs.declared.Token.the-variants.{Number, End, TooLarge, Strange}
 
 unfoldable pub within : ℕ → ℕ → ℕ → Bool
@@ -104,6 +105,18 @@ wordOf c (Strange _) = record { value = 0; cursor = faulted c 3 }
 -- The next number, and 0 where there is none or something went wrong before
 unfoldable pub wordAt : List ℕ → Cursor → Word
 wordAt text c = cond (eqb (c .fault) 0) (wordOf c (tokenAt text c)) (record { value = 0; cursor = c })
+
+unfoldable pub sizeOf : ℕ → Word → Size
+sizeOf most w =
+    cond (leb (w .value) most) (record { value = w .value; cursor = w .cursor }) (record { value = 0; cursor = faulted (w .cursor) 4 })
+
+-- The next number as a length of at most `most`; a larger one is a fault, and 0.
+unfoldable pub sizeAt : ℕ → List ℕ → Cursor → Size
+sizeAt most text c = sizeOf most (wordAt text c)
+
+-- The product of two lengths, and 0 where one of them is over 65,536
+unfoldable pub areaOf : ℕ → ℕ → ℕ
+areaOf a b = cond (leb a 65536 && leb b 65536) (a * b) 0
 
 -- The next n numbers, and the place behind them
 unfoldable pub wordsAt : ℕ → List ℕ → Cursor → List ℕ

@@ -2,7 +2,7 @@
 ghost use mathlib.Core.Path.{_≡_};
 ghost use Prim.Native.Nat.{_≤_};
 ghost use lib.ListN.{length, drop};
-ghost use Rattle.cases.specs.Text.{within, separates, after, skipped, digitOf, digitsOf, tokenAt, faulted, wordAt, wordsAt, floatOf, floatsAt, behind, first};
+ghost use Rattle.cases.specs.Text.{within, separates, after, skipped, digitOf, digitsOf, tokenAt, faulted, wordAt, sizeAt, areaOf, wordsAt, floatOf, floatsAt, behind, first};
 
 /// A place in a list, the numbers read up to it with their sum modulo 2^32, and what went wrong
 /// first (`FINE` where nothing did).
@@ -266,6 +266,7 @@ pub fn read_word(text: &[u8], c: Cursor) -> Word
 
 /// The next number as a length of at most `most`; a larger one is a fault.
 pub fn read_size(text: &[u8], c: Cursor, most: usize) -> Size
+    ensures { λ r. ⌜ r ≡ sizeAt most (now (text .entry)) c ⌝ }
     ensures { λ r. ⌜ r .value ≤ most ⌝ }
 {
     let w = read_word(text, c);
@@ -285,6 +286,7 @@ pub fn read_size(text: &[u8], c: Cursor, most: usize) -> Size
 
 /// The product of two lengths, and 0 where one of them is over 65,536.
 pub fn area(a: usize, b: usize) -> usize
+    ensures { λ r. ⌜ r ≡ areaOf a b ⌝ }
     ensures { λ r. ⌜ r ≤ 4294967296 ⌝ }
 {
     if a > 65536 {
