@@ -1,11 +1,15 @@
 // Passes one case of each kind, and its parts, by the format of oracle/README.md.
+ghost use mathlib.Core.Path.{_≡_};
+ghost use Rattle.kinds.specs.Kinds.{behindRuns, behindState};
 use cases::Cursor;
 
 // No length in a list is larger.
 const MOST: usize = 65536;
 
 /// Passes `count` runs, each after its length.
-pub fn pass_runs(text: &[u8], c: Cursor, count: usize) -> Cursor {
+pub fn pass_runs(text: &[u8], c: Cursor, count: usize) -> Cursor
+    ensures { λ r. ⌜ r ≡ behindRuns (now (text .entry)) count c ⌝ }
+{
     let mut left = count;
     let mut cursor = c;
     while left > 0 {
@@ -49,7 +53,9 @@ fn search(text: &[u8], c: Cursor) -> Cursor {
 }
 
 /// Passes a descent's state: lists, four contexts for each node, and the visited pairs.
-pub fn pass_state(text: &[u8], c: Cursor, n: usize, k: usize) -> Cursor {
+pub fn pass_state(text: &[u8], c: Cursor, n: usize, k: usize) -> Cursor
+    ensures { λ r. ⌜ r ≡ behindState (now (text .entry)) n k c ⌝ }
+{
     let lists = cases::pass(text, c, 2 * cases::area(n, k));
     let contexts = pass_runs(text, lists, cases::area(4, n));
     cases::pass(text, contexts, (cases::area(n, n) + 31) / 32)

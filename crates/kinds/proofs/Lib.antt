@@ -1,0 +1,2 @@
+-- Laws of steps over a text.
+pub mod Laws
