@@ -1,6 +1,6 @@
 // Passes one case of each kind, and its parts, by the format of oracle/README.md.
 ghost use mathlib.Core.Path.{_≡_};
-ghost use Rattle.kinds.specs.Kinds.{behindRuns, behindState};
+ghost use Rattle.kinds.specs.Kinds.{behindRuns, behindState, behindIterations, behindMoves, behindBuild, behindSearch, behindDescent, behindAlone, behindRelay, behindLinks, behindCase};
 use cases::Cursor;
 
 // No length in a list is larger.
@@ -25,7 +25,9 @@ pub fn pass_runs(text: &[u8], c: Cursor, count: usize) -> Cursor
 
 // Passes a build: d, n, `init_k`, L, `neighbor_neighbor_size`, the threshold and the lanes; n exact
 // lists; the rows after steps 4 and 5, nodes and bits, and the graph.
-fn build(text: &[u8], c: Cursor) -> Cursor {
+fn build(text: &[u8], c: Cursor) -> Cursor
+    ensures { λ r. ⌜ r ≡ behindBuild (now (text .entry)) c ⌝ }
+{
     let d = cases::read_size(text, c, MOST);
     let n = cases::read_size(text, d.cursor, MOST);
     let init_k = cases::read_word(text, n.cursor);
@@ -37,7 +39,9 @@ fn build(text: &[u8], c: Cursor) -> Cursor {
 
 // Passes a search: d, n, L, k, the roots, the lanes, the query and the graph; m, nodes and bits, and
 // the takings.
-fn search(text: &[u8], c: Cursor) -> Cursor {
+fn search(text: &[u8], c: Cursor) -> Cursor
+    ensures { λ r. ⌜ r ≡ behindSearch (now (text .entry)) c ⌝ }
+{
     let d = cases::read_size(text, c, MOST);
     let n = cases::read_size(text, d.cursor, MOST);
     let row = cases::read_size(text, n.cursor, MOST);
@@ -62,7 +66,9 @@ pub fn pass_state(text: &[u8], c: Cursor, n: usize, k: usize) -> Cursor
 }
 
 // Passes what `count` iterations answer: the cost, the total of new and the state.
-fn iterations(text: &[u8], c: Cursor, count: usize, n: usize, k: usize) -> Cursor {
+fn iterations(text: &[u8], c: Cursor, count: usize, n: usize, k: usize) -> Cursor
+    ensures { λ r. ⌜ r ≡ behindIterations (now (text .entry)) count n k c ⌝ }
+{
     let mut left = count;
     let mut cursor = c;
     while left > 0 {
@@ -77,7 +83,9 @@ fn iterations(text: &[u8], c: Cursor, count: usize, n: usize, k: usize) -> Curso
 }
 
 // Passes a descent: d, n, k, s, the lanes, the draws; the states.
-fn descent(text: &[u8], c: Cursor) -> Cursor {
+fn descent(text: &[u8], c: Cursor) -> Cursor
+    ensures { λ r. ⌜ r ≡ behindDescent (now (text .entry)) c ⌝ }
+{
     let d = cases::read_size(text, c, MOST);
     let n = cases::read_size(text, d.cursor, MOST);
     let k = cases::read_size(text, n.cursor, MOST);
@@ -90,7 +98,9 @@ fn descent(text: &[u8], c: Cursor) -> Cursor {
 }
 
 // Passes one iteration from a given state.
-fn iteration(text: &[u8], c: Cursor) -> Cursor {
+fn iteration(text: &[u8], c: Cursor) -> Cursor
+    ensures { λ r. ⌜ r ≡ behindAlone (now (text .entry)) c ⌝ }
+{
     let d = cases::read_size(text, c, MOST);
     let n = cases::read_size(text, d.cursor, MOST);
     let k = cases::read_size(text, n.cursor, MOST);
@@ -101,7 +111,9 @@ fn iteration(text: &[u8], c: Cursor) -> Cursor {
 }
 
 // Passes the list that each of `count` moves left: its length, nodes and bits.
-fn moves(text: &[u8], c: Cursor, count: usize) -> Cursor {
+fn moves(text: &[u8], c: Cursor, count: usize) -> Cursor
+    ensures { λ r. ⌜ r ≡ behindMoves (now (text .entry)) count c ⌝ }
+{
     let mut left = count;
     let mut cursor = c;
     while left > 0 {
@@ -117,7 +129,9 @@ fn moves(text: &[u8], c: Cursor, count: usize) -> Cursor {
 
 // Passes a relay: d, n, k, the lanes, the lists, the jobs and the moves; what each move left, the
 // lists at the end, and two reports for each job.
-fn relay(text: &[u8], c: Cursor) -> Cursor {
+fn relay(text: &[u8], c: Cursor) -> Cursor
+    ensures { λ r. ⌜ r ≡ behindRelay (now (text .entry)) c ⌝ }
+{
     let d = cases::read_size(text, c, MOST);
     let n = cases::read_size(text, d.cursor, MOST);
     let k = cases::read_size(text, n.cursor, MOST);
@@ -132,7 +146,9 @@ fn relay(text: &[u8], c: Cursor) -> Cursor {
 }
 
 // Passes step 5 alone: d, n, L, the threshold, the lanes, and the rows before and after.
-fn links(text: &[u8], c: Cursor) -> Cursor {
+fn links(text: &[u8], c: Cursor) -> Cursor
+    ensures { λ r. ⌜ r ≡ behindLinks (now (text .entry)) c ⌝ }
+{
     let d = cases::read_size(text, c, MOST);
     let n = cases::read_size(text, d.cursor, MOST);
     let row = cases::read_size(text, n.cursor, MOST);
@@ -144,7 +160,9 @@ fn links(text: &[u8], c: Cursor) -> Cursor {
 }
 
 /// Passes the input and the answer of a case of some kind; a kind that there is not is a fault.
-pub fn pass_case(text: &[u8], c: Cursor, kind: u32) -> Cursor {
+pub fn pass_case(text: &[u8], c: Cursor, kind: u32) -> Cursor
+    ensures { λ r. ⌜ r ≡ behindCase (now (text .entry)) kind c ⌝ }
+{
     match kind {
         1 => build(text, c),
         2 => search(text, c),

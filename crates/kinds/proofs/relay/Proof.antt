@@ -1,4 +1,5 @@
--- `kinds::relay` is safe and ends. Assumes nothing.
+-- `kinds::relay` meets its contract. Assumes nothing.
+use Rattle.kinds.specs.Kinds.{behindRelay}
 use borrow.Author.Needs.{needs}
 use Rattle.kinds.proofs.relay.Statement.{statement}
 use Rattle.kinds.proofs.relay.Tie as tie
@@ -55,7 +56,22 @@ pass-requires-4 : tie.Need-pass-requires-4
 pass-requires-4 c κs = search needs
 
 returns : tie.Need-returns
-returns c = search needs
+unfolding behindRelay
+returns c =
+    let s13 = c .before in
+    let s12 = s13 .before in
+    let s11 = s12 .before in
+    let s10 = s11 .before in
+    let s9 = s10 .before in
+    let s8 = s9 .before in
+    let s7 = s8 .before in
+    let s6 = s7 .before in
+    let s5 = s6 .before in
+    let s4 = s5 .before in
+    let s3 = s4 .before in
+    let s2 = s3 .before in
+    let s1 = s2 .before in
+    rw (← s1 .read-size .ensures .0, ← s2 .read-size2 .ensures .0, ← s3 .read-size3 .ensures .0, ← s4 .area .ensures .0, ← s5 .area2 .ensures .0, ← s6 .pass .ensures, ← s7 .read-size4 .ensures .0, ← s9 .pass2 .ensures, ← s10 .read-size5 .ensures .0, ← s11 .pass3 .ensures, ← s12 .moves .ensures, ← c .pass4 .ensures)
 
 pub relay-spec : {M : Type 1} → statement M
 relay-spec =
