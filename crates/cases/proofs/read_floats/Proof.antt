@@ -1,10 +1,7 @@
 -- `cases::read_floats` meets its contract. Assumes nothing.
-use mathlib.Core.Path.{_∙_, ap}
-use mathlib.Core.List.{List, _∷_}
 use Prim.Native.Nat.{_-_}
 use native.Mathlib.Omega.{arith}
 use lib.ListN.{length, length-set}
-use lib.Ieee.{Float}
 use Rattle.cases.specs.Text.{floatsAt}
 use Rattle.cases.proofs.Laws.{floats-turn, floats-none, Filling, filling-none, filling-turn, filling-end}
 use borrow.Author.Needs.{needs}

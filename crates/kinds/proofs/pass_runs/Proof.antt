@@ -1,6 +1,6 @@
 -- `kinds::pass_runs` meets its contract: what is left leads to the same place. Assumes nothing.
-use mathlib.Core.Path.{_≡_, refl, sym, ap, _∙_}
-use Rattle.kinds.specs.Kinds.{behindRun, behindRuns}
+use mathlib.Core.Path.{_≡_, refl, sym, _∙_}
+use Rattle.kinds.specs.Kinds.{behindRuns}
 use Rattle.kinds.proofs.Laws.{times-fault, times-turn, times-none, run-fault, run-made}
 use borrow.Author.Needs.{needs}
 use Rattle.kinds.proofs.pass_runs.Statement.{statement}
