@@ -2,7 +2,6 @@
 ghost use mathlib.Core.Path.{_≡_};
 ghost use mathlib.Core.List.{[], _∷_};
 ghost use Prim.Native.Nat.{_*_, _≤_};
-ghost use lib.ListN.{length};
 ghost use Rattle.rules.specs.Loops.{anyOf};
 ghost use Rattle.rules.specs.Numbers.{outside, badThreshold};
 ghost use Rattle.rules.specs.Refusals.{decide, decisionOf, holds, notExactly, lessThan};

@@ -2,10 +2,9 @@
 ghost use mathlib.Core.Path.{_≡_};
 ghost use mathlib.Core.Bool.{true, false};
 ghost use mathlib.Core.List.{[], _∷_};
-ghost use Prim.Native.Nat.{ℕ, _+_, _*_, _≤_, _<_};
-ghost use lib.ListN.{length, getD};
-ghost use lib.Ieee.{nan};
-ghost use Rattle.rules.specs.Distance.{lane, fit, answer, carried, nodesApart, unfit, between};
+ghost use Prim.Native.Nat.{_+_, _*_, _≤_, _<_};
+ghost use lib.ListN.{length};
+ghost use Rattle.rules.specs.Distance.{lane, fit, answer, carried, nodesApart, between};
 ghost use Rattle.rules.specs.Refusals.{decide, decisionOf, row10};
 ghost use Rattle.kernels.specs.Eight.{held, Held, Laned, PutRow, Holds, Totals, allFit, blockFit};
 ghost use Rattle.kernels.specs.Four.{Fours, Apart4};

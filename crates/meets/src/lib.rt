@@ -1,5 +1,4 @@
 // One pair of an iteration meets: an update of both lists, and marks both ways, in a descent's state.
-ghost use mathlib.Core.Path.{_≡_};
 ghost use Prim.Native.Nat.{_*_, _≤_, _<_};
 ghost use lib.ListN.{length};
 ghost use Rattle.rules.specs.Distance.{between};

@@ -1,18 +1,15 @@
 // The entry `close`: the refusal table, the lists and the reports.
 ghost use mathlib.Core.Path.{_≡_};
-ghost use mathlib.Core.Bool.{true, not};
+ghost use mathlib.Core.Bool.{true};
 ghost use mathlib.Core.List.{[], _∷_};
-ghost use Prim.Native.Nat.{ℕ, _+_, _*_, _≤_};
-ghost use lib.Dec.{eqb};
-ghost use lib.ListN.{length, getD};
+ghost use Prim.Native.Nat.{_+_, _*_, _≤_};
+ghost use lib.ListN.{length};
 ghost use Rattle.rules.specs.Loops.{anyOf, firstFrom, over};
 ghost use Rattle.rules.specs.Refusals.{decide, decisionOf, holds, notExactly};
 ghost use Rattle.rules.specs.Calls.{relayWords, relayFloats};
 ghost use Rattle.rules.specs.Relay.{reportsOf};
-ghost use Rattle.rules.specs.Places.{listWords, listFloats};
 ghost use Rattle.rules.specs.RelayPlaces.{relayIn};
 ghost use Rattle.rules.specs.RelayCall.{closeTable};
-ghost use Rattle.relay_state.specs.State.{Sized};
 ghost use Rattle.relay_close.specs.Close.{lent, stepsLeft, Done, ListsWritten, Closed};
 use rules::Answer;
 use rules::Refusal;

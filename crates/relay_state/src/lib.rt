@@ -3,7 +3,6 @@ ghost use mathlib.Core.Path.{_≡_};
 ghost use Prim.Native.Nat.{_+_, _*_, _≤_};
 ghost use lib.ListN.{length, drop, getD};
 ghost use Rattle.rules.specs.Distance.{zero32};
-ghost use Rattle.rules.specs.Calls.{relayWords, relayFloats};
 ghost use Rattle.rules.specs.RelayPlaces.{relayFormed};
 ghost use Rattle.zeros.specs.Zeros.{allBelow};
 ghost use Rattle.jobs.specs.Jobs.{jobTest};

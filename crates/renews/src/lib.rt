@@ -5,7 +5,6 @@ ghost use mathlib.Core.List.{List};
 ghost use Prim.Native.Nat.{_+_, _*_, _/_, _≤_, _<_};
 ghost use lib.ListN.{length};
 ghost use Rattle.visits.specs.Marks.{Holds};
-ghost use Rattle.meets.specs.Meets.{marksAt};
 ghost use Rattle.renews.specs.Renews.{Lists, counted, Gathered, NewPut, OldPut, Renews};
 use rules::NodeId;
 

@@ -1,9 +1,8 @@
 // Whether unused places of lent slices are zero: words, and floats by their bits.
 ghost use mathlib.Core.Path.{_≡_};
 ghost use mathlib.Core.List.{map};
-ghost use Prim.Native.Nat.{_≤_};
 ghost use lib.Dec.{eqb};
-ghost use lib.ListN.{length, drop};
+ghost use lib.ListN.{drop};
 ghost use lib.Ieee.{binary32, toBits};
 ghost use Rattle.zeros.specs.Zeros.{zeros};
 
