@@ -104,18 +104,24 @@ def masked(text):
     return re.sub(r"//[^\n]*|(?<!extern )\"(?:[^\"\\\n]|\\.)*\"", lambda m: "~" * len(m.group(0)), text)
 
 
+def changed(file, name, plain, within, typed, words, moves):
+    """The edits of one body: words for words, numbers, variables, and what is moved or left out."""
+    found = [edit for table, pattern, kind in words for edit in swapped_words(plain, *within, table, pattern, kind)]
+    found += [*numbers(plain, *within), *same_kind(plain, *within, typed), *moves(plain, *within)]
+    for start, end, new, kind in found:
+        yield Edit(file, start, end, new, kind, name)
+
+
 def of_code(file, text):
     plain = masked(text)
+    words = [
+        (CODE_OPERATORS, r"(?<= )([<>=!&|+*/%-]{1,2})(?= )", "operator"),
+        ({"true": ["false"], "false": ["true"]}, r"\b(true|false)\b", "constant"),
+    ]
     for name, signature, start, end in bodies(plain):
         typed = dict(re.findall(r"(\w+): ([^,=;]+?)(?=[,\s]*(?:$|,|\n))", signature, re.M))
         typed.update(re.findall(r"let (?:mut )?(\w+): ([^=;]+?) =", plain[start:end]))
-        found = list(swapped_words(plain, start, end, CODE_OPERATORS, r"(?<= )([<>=!&|+*/%-]{1,2})(?= )", "operator"))
-        found += swapped_words(plain, start, end, {"true": ["false"], "false": ["true"]}, r"\b(true|false)\b", "constant")
-        found += numbers(plain, start, end)
-        found += same_kind(plain, start, end, typed)
-        found += code_moves(plain, start, end)
-        for s, e, new, kind in found:
-            yield Edit(file, s, e, new, kind, name)
+        yield from changed(file, name, plain, (start, end), typed, words, code_moves)
 
 
 def argument_types(signature):
@@ -175,14 +181,9 @@ def of_rules(file, text):
     plain = re.sub(r"--[^\n]*", lambda m: "~" * len(m.group(0)), text)
     # a word that the file does not bring in would give no definition
     usable = {old: [new for new in others if re.search(r"(?<![\w-])%s(?![\w-])" % new, plain)] for old, others in RULE_WORDS.items()}
+    words = [(RULE_OPERATORS, r"(?<= )([&|+*%≤<-]{1,2})(?= )", "operator"), (usable, r"(?<![\w'.-])([a-z]+)(?![\w'-])", "operator")]
     for name, typed, start, end in list(clauses(plain)) + list(fields(plain)):
-        found = list(swapped_words(plain, start, end, RULE_OPERATORS, r"(?<= )([&|+*%≤<-]{1,2})(?= )", "operator"))
-        found += swapped_words(plain, start, end, usable, r"(?<![\w'.-])([a-z]+)(?![\w'-])", "operator")
-        found += numbers(plain, start, end)
-        found += same_kind(plain, start, end, typed)
-        found += rule_moves(plain, start, end)
-        for s, e, new, kind in found:
-            yield Edit(file, s, e, new, kind, name)
+        yield from changed(file, name, plain, (start, end), typed, words, rule_moves)
 
 
 def of_crate(folder):
