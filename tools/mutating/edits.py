@@ -45,13 +45,15 @@ def bodies(text):
 
 
 def numbers(text, start, end):
-    """Each whole number one more and one less."""
+    """Each whole number one more and one less, each decimal one more."""
     for m in re.finditer(r"(?<![\w.])(0x[0-9A-Fa-f_]+|\d[\d_]*)(?![\w.])", text[start:end]):
         value = int(m.group(1).replace("_", ""), 0)
         shape = (lambda v: hex(v)) if m.group(1).startswith("0x") else str
         kind = "bound" if COMPARED.search(text[:start + m.start()]) else "constant"
         for new in ([value + 1] if value == 0 else [value + 1, value - 1]):
             yield start + m.start(), start + m.end(), shape(new), kind
+    for m in re.finditer(r"(?<![\w.])\d+(?=\.\d)", text[start:end]):
+        yield start + m.start(), start + m.end(), str(int(m.group(0)) + 1), "constant"
 
 
 def swapped_words(text, start, end, table, pattern, kind):
@@ -122,6 +124,8 @@ def of_code(file, text):
         typed = dict(re.findall(r"(\w+): ([^,=;]+?)(?=[,\s]*(?:$|,|\n))", signature, re.M))
         typed.update(re.findall(r"let (?:mut )?(\w+): ([^=;]+?) =", plain[start:end]))
         yield from changed(file, name, plain, (start, end), typed, words, code_moves)
+    for m in re.finditer(r"^(?:pub )?const (\w+): [^=]+ = ([^;]+);", plain, re.M):
+        yield from (Edit(file, start, end, new, "constant", m.group(1)) for start, end, new, _ in numbers(plain, *m.span(2)))
 
 
 def argument_types(signature):
