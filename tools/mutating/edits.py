@@ -45,7 +45,7 @@ def bodies(text):
 
 
 def numbers(text, start, end):
-    """Each whole number one more and one less, each decimal one more."""
+    """Each whole number one more and one less, each decimal one more or twice as much."""
     for m in re.finditer(r"(?<![\w.])(0x[0-9A-Fa-f_]+|\d[\d_]*)(?![\w.])", text[start:end]):
         value = int(m.group(1).replace("_", ""), 0)
         shape = (lambda v: hex(v)) if m.group(1).startswith("0x") else str
@@ -53,7 +53,9 @@ def numbers(text, start, end):
         for new in ([value + 1] if value == 0 else [value + 1, value - 1]):
             yield start + m.start(), start + m.end(), shape(new), kind
     for m in re.finditer(r"(?<![\w.])\d+(?=\.\d)", text[start:end]):
-        yield start + m.start(), start + m.end(), str(int(m.group(0)) + 1), "constant"
+        value = int(m.group(0))
+        # one more may be the same binary32: then twice as much
+        yield start + m.start(), start + m.end(), str(value + 1 if value < 1 << 24 else 2 * value), "constant"
 
 
 def swapped_words(text, start, end, table, pattern, kind):
