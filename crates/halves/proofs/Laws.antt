@@ -16,6 +16,7 @@ use Rattle.rules.specs.Offers.{look, pop}
 use Rattle.rules.specs.Relay.{Stage, takenOf, longerOf, bit, nextStage, nextList}
 use Rattle.rules.specs.Places.{padded}
 use Rattle.rules.specs.RelayPlaces.{stageIn}
+use Rattle.rules.proofs.Places.{drop-replicate}
 use Rattle.lists.specs.Lists.{Pushed, Popped}
 use Rattle.lists.proofs.Laws.{length-insert}
 use Rattle.lists.proofs.Slices.{length-entries, nodesOf-entries, distancesOf-entries}
@@ -50,11 +51,6 @@ module _ (k : ℕ) (equal : Bool) (e : Neighbor) (l : List Neighbor) where
 -- ---- room behind a list
 
 module _ {A : Type 0} (z : A) where
-  drop-replicate : (a b : ℕ) → drop a (replicate b z) ≡ replicate (b - a) z
-  drop-replicate zero b = ap (λ (i : ℕ). replicate i z) (let e : b ≡ b - 0 = omega arith in e)
-  drop-replicate (suc a) zero = ap (λ (i : ℕ). replicate i z) (let e : 0 ≡ 0 - suc a = omega arith in e)
-  drop-replicate (suc a) (suc b) = drop-replicate a b ∙ ap (λ (i : ℕ). replicate i z) (let e : b - a ≡ suc b - suc a = omega arith in e)
-
   -- from r on, where the front is no longer than r
   behind : (R r : ℕ) (f xs : List A) → xs ≡ padded R z f → length f ≤ r → drop r xs ≡ replicate (R - r) z
   unfolding padded
@@ -64,7 +60,7 @@ module _ {A : Type 0} (z : A) where
       ap (drop r) e ∙ ap (λ (i : ℕ). drop i (f ++ replicate (R - length f) z)) (sym s)
       ∙ sym (drop-drop (r - length f) (length f) (f ++ replicate (R - length f) z))
       ∙ ap (drop (r - length f)) (drop-at f (replicate (R - length f) z) (length f) refl)
-      ∙ drop-replicate (r - length f) (R - length f) ∙ ap (λ (i : ℕ). replicate i z) t
+      ∙ drop-replicate (r - length f) (R - length f) z ∙ ap (λ (i : ℕ). replicate i z) t
 
   -- a front g, and zeros behind it
   repad : (R r : ℕ) (g ys : List A) → take r ys ≡ g → length g ≡ r → drop r ys ≡ replicate (R - r) z → ys ≡ padded R z g

@@ -10,11 +10,7 @@ use Rattle.rules.specs.Loops.{turns, over}
 use Rattle.rules.specs.Places.{padded}
 use Rattle.rules.specs.Descent.{Context}
 use Rattle.rules.specs.DescentPlaces.{memberWords, contextWords}
-
-drop-replicate : (n m : ℕ) (z : ℕ) → drop n (replicate m z) ≡ replicate (m - n) z
-drop-replicate zero m z = ap (λ (i : ℕ). replicate i z) (let e : m ≡ m - 0 = omega arith in e)
-drop-replicate (suc n) zero z = ap (λ (i : ℕ). replicate i z) (let e : 0 ≡ 0 - suc n = omega arith in e)
-drop-replicate (suc n) (suc m) z = drop-replicate n m z ∙ ap (λ (i : ℕ). replicate i z) (let e : m - n ≡ suc m - suc n = omega arith in e)
+use Rattle.rules.proofs.Places.{drop-replicate}
 
 pub put : (src dst ys : List ℕ) (w : ℕ) → length dst ≡ 65 → w ≡ 64 → ys ≡ over (length src) src (take w (drop 1 (set (replicate (length dst) 0) 0 (length src))))
     → putMid 1 w (set (replicate (length dst) 0) 0 (length src)) ys ≡ memberWords src

@@ -16,6 +16,7 @@ use Rattle.rules.specs.Lists.{nodesOf, distancesOf}
 use Rattle.rules.specs.Relay.{Job, Relay, noJob, isFinished, reportsOf}
 use Rattle.rules.specs.Places.{padded, listWords, listFloats}
 use Rattle.rules.specs.RelayPlaces.{relayIn}
+use Rattle.rules.proofs.Places.{part-long}
 use Rattle.lists.proofs.Plain.{all-of, length-nodes, length-distances}
 use Rattle.buffers.proofs.Laws.{Written, written-more}
 use Rattle.encoded.specs.Words.{Rows}
@@ -31,10 +32,6 @@ use Rattle.relay_move.proofs.Table.{jobs-are, few-jobs}
 use Rattle.relay_kept.proofs.Stages.{report-first, report-second, length-reports}
 use Rattle.relay_close.specs.Close.{Done, ListsWritten}
 use Rattle.relay_close.proofs.Blocks.{Blocks, blocks-turn, blocks-end, copied}
-
-part-long : {A : Type 0} (k w : ℕ) (xs : List A) → w * k + k ≤ length xs → length (part k w xs) ≡ k
-unfolding part
-part-long k w xs h = length-take-le k (drop (w * k) xs) (simp length-drop (omega arith))
 
 -- ---- the lists
 

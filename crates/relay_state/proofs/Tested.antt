@@ -22,6 +22,7 @@ use Rattle.rules.specs.RelayPlaces.{roomWords, roomFloats, lengthsOf, jobWords,
 use Rattle.rules.proofs.Tables.{within}
 use Rattle.rules.proofs.Tests.{both, same-truth}
 use Rattle.rules.proofs.Loops.{ones}
+use Rattle.rules.proofs.Places.{part-long}
 use Rattle.lists.proofs.Plain.{all-take, length-nodes, length-distances, to-end}
 use Rattle.lists.proofs.Slices.{length-entries, nodesOf-entries, distancesOf-entries}
 use Rattle.encoded.specs.Words.{Binary32}
@@ -86,10 +87,6 @@ module _ {n k : ℕ} {us : List ℕ} {fs : List Float} (z : Sized n k us fs) (B 
   abbrev l : ℕ → List Neighbor
   l w = listOf n k us fs w
 
-  part-long : {A : Type 0} (w : ℕ) (xs : List A) → w * (k + 64) + (k + 64) ≤ length xs → length (part (k + 64) w xs) ≡ k + 64
-  unfolding part
-  part-long w xs h = length-take-le (k + 64) (drop (w * (k + 64)) xs) (simp length-drop (omega arith))
-
   module _ (good : allBelow (roomAt n k us fs) n ≡ true) where
     room : (w : ℕ) → w < n → Room n (k + pendingAt w (relayIn n k us fs .jobs)) (getD us (n * (k + 64) + w) 0) (part (k + 64) w us) (part (k + 64) w fs)
     unfolding roomAt part
@@ -100,7 +97,7 @@ module _ {n k : ℕ} {us : List ℕ} {fs : List Float} (z : Sized n k us fs) (B 
         let all-floats = s .all-floats in
         let to = i .to in
         room-of n (k + pendingAt w (relayIn n k us fs .jobs)) (getD us (n * (k + 64) + w) 0) (part (k + 64) w us) (part (k + 64) w fs)
-        (part-long w fs (omega arith) ∙ sym (part-long w us (omega arith)))
+        (part-long (k + 64) w fs (omega arith) ∙ sym (part-long (k + 64) w us (omega arith)))
         (all-take (λ (x : Float). T (fits binary32 x)) (k + 64) (drop (w * (k + 64)) fs) (all-drop (λ (x : Float). T (fits binary32 x)) (w * (k + 64)) fs B))
         (all.all-at (roomAt n k us fs) n w good h)
 
@@ -110,7 +107,7 @@ module _ {n k : ℕ} {us : List ℕ} {fs : List Float} (z : Sized n k us fs) (B 
         let s = i .sizes in
         let all-words = s .all-words in
         let to = i .to in
-        part-long w us (omega arith)
+        part-long (k + 64) w us (omega arith)
 
     rooms-words : roomWords (k + 64) (relayIn n k us fs .lists) ≡ take (n * (k + 64)) us
     unfolding relayIn
