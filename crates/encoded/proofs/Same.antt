@@ -4,13 +4,13 @@ use mathlib.Core.Bool.{Bool, true, false, _&&_, true≢false}
 use mathlib.Core.List.{List, [], _∷_, _++_, map}
 use Prim.Native.Nat.{ℕ}
 use native.Mathlib.Omega.{arith}
-use lib.Dec.{T, eqb}
+use lib.Dec.{eqb}
 use lib.ListN.{length}
-use lib.Ieee.{Float, binary32, toBits, ofBits, fits}
-use lib.Ieee.Bits.{ofBits-toBits}
+use lib.Ieee.{Float, binary32, toBits}
 use borrow.Author.Tests.{eqb-true, eq-eqb}
 use Rattle.rules.specs.Places.{sameWords, sameFloats}
 use Rattle.rules.proofs.Tests.{both, and-assoc}
+use Rattle.neighbor.proofs.Bits.{bits-same}
 use Rattle.encoded.specs.Words.{Binary32}
 
 -- ---- words
@@ -43,9 +43,6 @@ same-words-append (x ∷ xs) (y ∷ ys) zs ws h =
     ap (λ (b : Bool). eqb x y && b) (same-words-append xs ys zs ws (omega arith)) ∙ sym (and-assoc (eqb x y) (sameWords xs ys) (sameWords zs ws))
 
 -- ---- floats, by their bits: there is one NaN, so that equal bits are one value
-
-pub bits-same : (x y : Float) → T (fits binary32 x) → T (fits binary32 y) → toBits binary32 x ≡ toBits binary32 y → x ≡ y
-bits-same x y X Y e = sym (ofBits-toBits binary32 x X) ∙ ap (ofBits binary32) e ∙ ofBits-toBits binary32 y Y
 
 pub same-floats : (xs ys : List Float) → xs ≡ ys → sameFloats xs ys ≡ true
 unfolding sameFloats

@@ -158,6 +158,10 @@ pub holdable-zero : Holdable zero32
 unfolding ofBits toBits
 holdable-zero = record { held = ofBits-fits binary32 0; low = omega arith }
 
+-- equal bits are one value: there is one NaN
+pub bits-same : (x y : Float) → T (fits binary32 x) → T (fits binary32 y) → toBits binary32 x ≡ toBits binary32 y → x ≡ y
+bits-same x y hx hy e = sym (ofBits-toBits binary32 x hx) ∙ ap (ofBits binary32) e ∙ ofBits-toBits binary32 y hy
+
 module _ (x y : Float) (hx : Holdable x) (hy : Holdable y) where
   bits-mono : num x * den y ≤ num y * den x → toBits binary32 x ≤ toBits binary32 y
   bits-mono h =
@@ -167,13 +171,9 @@ module _ (x y : Float) (hx : Holdable x) (hy : Holdable y) where
       let g : grain f x * 2 ^ low f ≤ grain f y * 2 ^ low f = transfer (grain f x) (grain f y) (2 ^ low f) (2 ^ low f) (num x) (num y) (den x) (den y) (den-pos x) (den-pos y) (sym (exact f x (hx .held) px)) (sym (exact f y (hy .held) py)) h in
       rw (bits-are f x px, bits-are f y py) (pattern-mono (prec f) (grain f x) (grain f y) (two-le-pos (prec f) (two f)) (le-of-mul-le-mul-right g (pow-pos (low f))))
 
-  -- equal bits are one distance
-  pub bits-same : toBits binary32 x ≡ toBits binary32 y → x ≡ y
-  bits-same e = sym (ofBits-toBits binary32 x (hx .held)) ∙ ap (ofBits binary32) e ∙ ofBits-toBits binary32 y (hy .held)
-
   bits-less : num x * den y < num y * den x → toBits binary32 x < toBits binary32 y
   bits-less h = elim (eq-or-lt-of-le (bits-mono (le-of-lt h))) [
-    | inl e ↦ absurd (lt-irrefl (num y * den y) (subst (λ (z : Float). num z * den y < num y * den z) (bits-same e) h))
+    | inl e ↦ absurd (lt-irrefl (num y * den y) (subst (λ (z : Float). num z * den y < num y * den z) (bits-same x y (hx .held) (hy .held) e) h))
     | inr l ↦ l
   ]
 

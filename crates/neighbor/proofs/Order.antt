@@ -78,7 +78,7 @@ total a b A B p q =
     let x = ltb-false (key M a) (key M b) (sym (before-key M a b A B (omega arith) (omega arith)) ∙ p) in
     let y = ltb-false (key M b) (key M a) (sym (before-key M b a B A (omega arith) (omega arith)) ∙ q) in
     let e : r ≡ s = same-high M r s (nodeOf a) (nodeOf b) (omega arith) (omega arith) (omega arith) in
-    let d : a .distance ≡ b .distance = bits-same (a .distance) (b .distance) A B e in
+    let d : a .distance ≡ b .distance = bits-same (a .distance) (b .distance) (A .held) (B .held) e in
     let w : r * M ≡ s * M = ap (λ (z : ℕ). z * M) e in
     let n : nodeOf a ≡ nodeOf b = omega arith in
     λ k. record { node = record { 0 = n k }; distance = d k }

@@ -1,4 +1,4 @@
--- Zeros are zeros of a number, and what is a value of binary32 in lists made of such. Assumes nothing.
+-- What is found zero is as many zeros, and the floats of jobs behind which are zeros are values of binary32. Assumes nothing.
 use mathlib.Core.Path.{_≡_, refl}
 use mathlib.Core.Bool.{true}
 use mathlib.Core.List.{List, [], _∷_, map}
@@ -15,7 +15,7 @@ use Rattle.rules.specs.RelayPlaces.{jobsFloats}
 use Rattle.rules.proofs.Tests.{both}
 use Rattle.lists.specs.All.{All}
 use Rattle.encoded.specs.Words.{Binary32}
-use Rattle.encoded.proofs.Same.{bits-same}
+use Rattle.neighbor.proofs.Bits.{bits-same}
 use Rattle.encoded.proofs.Binary.{binary-padded, jobs-binary}
 use Rattle.zeros.specs.Zeros.{zeros}
 
