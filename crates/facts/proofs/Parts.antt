@@ -8,13 +8,12 @@ use native.Mathlib.Omega.{arith}
 use lib.Dec.{ltb}
 use lib.ListN.{length, take, drop, replicate, length-append, length-drop, take-append-drop}
 use lib.Seq.{length-take-le, take-append-le, drop-append-le, take-at, drop-at, drop-drop}
-use lib.Ieee.{eq, ofBits}
 use borrow.Author.Tests.{ltb-true, ltb-false}
 use Rattle.rules.specs.declared.Neighbor.{Neighbor}
 use Rattle.rules.specs.Loops.{part, putPart}
-use Rattle.rules.specs.Lists.{neighbor}
-use Rattle.rules.specs.Rows.{emptyDistance, isEmpty, emptySlot, live}
+use Rattle.rules.specs.Rows.{isEmpty, emptySlot, live}
 use Rattle.rules.specs.Build.{markNext}
+use Rattle.offers.proofs.Laws.{is-empty}
 
 -- ---- part q replaced
 
@@ -73,19 +72,15 @@ module _ {A : Type 0} (w q : ℕ) (ys xs : List A) (h : length ys ≡ w) (g : q 
 
 -- ---- the live part
 
-pub empty-is : (v : ℕ) → isEmpty (neighbor v emptyDistance) ≡ true
-unfolding isEmpty eq ofBits
-empty-is v = refl
-
 pub live-marked : (es : List Neighbor) → live (markNext es) ≡ []
 unfolding live markNext
 live-marked [] = refl
-live-marked (e ∷ es) = rw (empty-is (e .node .0))
+live-marked (e ∷ es) = rw (is-empty (e .node .0))
 
 pub live-empty : (n m : ℕ) → live (replicate m (emptySlot n)) ≡ []
 unfolding live
 live-empty n zero = refl
-live-empty n (suc m) = rw (empty-is n)
+live-empty n (suc m) = rw (is-empty n)
 
 -- what is not live adds nothing
 pub live-append : (xs ys : List Neighbor) → live ys ≡ [] → live (xs ++ ys) ≡ live xs

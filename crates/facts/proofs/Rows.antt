@@ -24,12 +24,12 @@ use Rattle.encoded.proofs.Rows.{length-part, all-getD}
 use Rattle.rules.proofs.Loops.{row-in}
 use Rattle.rows.proofs.Laws.{length-live}
 use Rattle.offers.specs.Sound.{Sound}
-use Rattle.offers.proofs.Laws.{sound-live, sound-part, sound-offered, sound-put}
+use Rattle.offers.proofs.Laws.{sound-live, sound-part, sound-offered, sound-put, is-empty}
 use Rattle.build.proofs.Steps.{sound-slots}
 use Rattle.descent_kept.proofs.Lists.{turns-keeps}
 use Rattle.facts.specs.Different.{different}
 use Rattle.facts.specs.Rows.{SlotRows, GraphRows, BuildRows, CallRows}
-use Rattle.facts.proofs.Parts.{length-put, part-put, part-other, empty-is}
+use Rattle.facts.proofs.Parts.{length-put, part-put, part-other}
 use Rattle.facts.proofs.Once.{Once, length-pruned, once-pruned, length-offered, once-offered}
 
 -- ---- the slots
@@ -97,7 +97,7 @@ module _ (n w : ℕ) where
         node : isEmpty (getD slots (i + v) (emptySlot 0)) ≡ false → nodeOf (getD slots (i + v) (emptySlot 0)) < n
         node =
             all-getD (λ (e : Neighbor). isEmpty e ≡ false → nodeOf e < n) slots (i + v) (emptySlot 0) (R .sound)
-            (λ (h : isEmpty (emptySlot 0) ≡ false). absurd (true≢false (sym (empty-is 0) ∙ h)))
+            (λ (h : isEmpty (emptySlot 0) ≡ false). absurd (true≢false (sym (is-empty 0) ∙ h)))
 
         go : (b : Bool) → isEmpty (getD slots (i + v) (emptySlot 0)) ≡ b → SlotRows n w (cond b slots (linkBack d t w v (getD slots (i + v) (emptySlot 0)) slots))
         go true h = R

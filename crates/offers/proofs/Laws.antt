@@ -177,6 +177,10 @@ live-full (e ∷ es) h = go (isEmpty e) (live-full es) h
     go true ih h = absurd (not-suc-le-zero h)
     go false ih h = ap (λ (l : List Neighbor). e ∷ l) (ih (le-of-suc-le-suc h))
 
+pub is-empty : (v : ℕ) → isEmpty (neighbor v emptyDistance) ≡ true
+unfolding isEmpty eq ofBits
+is-empty v = refl
+
 module _ (n : ℕ) where
   pub sound-live : (es : List Neighbor) → Sound n es → AllBelow n (live es)
   unfolding live
@@ -210,10 +214,6 @@ module _ (n : ℕ) where
 
   sound-append : (xs ys : List Neighbor) → Sound n xs → Sound n ys → Sound n (xs ++ ys)
   sound-append xs ys X Y = all-append (λ (e : Neighbor). isEmpty e ≡ false → nodeOf e < n) xs ys X Y
-
-  is-empty : (v : ℕ) → isEmpty (neighbor v emptyDistance) ≡ true
-  unfolding isEmpty eq ofBits
-  is-empty v = refl
 
   sound-mark : (es : List Neighbor) → Sound n es → Sound n (markNext es)
   unfolding markNext
