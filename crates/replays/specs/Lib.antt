@@ -1,2 +1,3 @@
--- `Compare`: when a list's numbers and ours are the same.
+-- `Compare`: when a list's numbers and ours are the same. `Next`: the next case of a list.
 pub mod Compare
+pub mod Next

@@ -1,8 +1,9 @@
 // The common ground of the replays: the next case of a list, our numbers beside a list's, and lent buffers looked at after a call.
 ghost use mathlib.Core.Path.{_≡_};
 ghost use lib.ListN.{length, drop};
-ghost use Rattle.cases.specs.Text.{wordsAt};
-ghost use Rattle.replays.specs.Compare.{apart, holdsOnly};
+ghost use Rattle.cases.specs.Text.{wordsAt, behind};
+ghost use Rattle.replays.specs.Compare.{apart, holdsOnly, isZero, allZero};
+ghost use Rattle.replays.specs.Next.{unexpected, endAt, caseAt};
 use cases::Cursor;
 use cases::Token;
 
@@ -19,7 +20,9 @@ pub struct Compared {
     pub cursor: Cursor,
 }
 
-fn unexpected(c: Cursor) -> Case {
+fn unexpected(c: Cursor) -> Case
+    ensures { λ r. ⌜ r ≡ unexpected c ⌝ }
+{
     Case {
         kind: 0,
         cursor: cases::faulted(c, cases::UNEXPECTED),
@@ -27,7 +30,9 @@ fn unexpected(c: Cursor) -> Case {
 }
 
 // The list's end: the number of cases, and nothing more.
-fn list_end(text: &[u8], c: Cursor, passed: u32) -> Case {
+fn list_end(text: &[u8], c: Cursor, passed: u32) -> Case
+    ensures { λ r. ⌜ r ≡ endAt (now (text .entry)) passed c ⌝ }
+{
     let total = cases::read_word(text, c);
     let behind = total.cursor;
     if total.value != passed {
@@ -44,7 +49,9 @@ fn list_end(text: &[u8], c: Cursor, passed: u32) -> Case {
 }
 
 /// Reads the number and the kind of the next case, after `passed` cases.
-pub fn next_case(text: &[u8], c: Cursor, passed: u32) -> Case {
+pub fn next_case(text: &[u8], c: Cursor, passed: u32) -> Case
+    ensures { λ r. ⌜ r ≡ caseAt (now (text .entry)) passed c ⌝ }
+{
     let number = cases::read_word(text, c);
     let behind = number.cursor;
     if behind.fault != 0 {
@@ -70,6 +77,7 @@ pub fn next_case(text: &[u8], c: Cursor, passed: u32) -> Case {
 /// Compares our numbers with the next of a list.
 pub fn compare(text: &[u8], c: Cursor, ours: &[u32]) -> Compared
     ensures { λ r. ⌜ r .at ≡ apart (now (ours .entry)) (wordsAt (length (now (ours .entry))) (now (text .entry)) c) ⌝ }
+    ensures { λ r. ⌜ r .cursor ≡ behind (length (now (ours .entry))) (now (text .entry)) c ⌝ }
 {
     let mut i: usize = 0;
     let mut cursor = c;
@@ -105,7 +113,9 @@ pub fn all_words(xs: &[u32], from: usize, value: u32) -> bool
 }
 
 /// Whether every place holds 0.0, and not -0.0.
-pub fn all_zero(xs: &[f32]) -> bool {
+pub fn all_zero(xs: &[f32]) -> bool
+    ensures { λ r. ⌜ r ≡ allZero (now (xs .entry)) ⌝ }
+{
     let mut i: usize = 0;
     while i < xs.len() {
         if !is_zero(xs[i]) {
@@ -116,7 +126,9 @@ pub fn all_zero(xs: &[f32]) -> bool {
     true
 }
 
-fn is_zero(x: f32) -> bool {
+fn is_zero(x: f32) -> bool
+    ensures { λ r. ⌜ r ≡ isZero x ⌝ }
+{
     if x != x {
         return false;
     }
