@@ -1,4 +1,6 @@
 // What the replays count and say: how a case came out, and how many did.
+ghost use mathlib.Core.Path.{_≡_};
+ghost use Rattle.tallies.specs.Tallies.{noCase, joined, scratched, counted, closed};
 use cases::Cursor;
 use libc::STDOUT_FILENO;
 
@@ -35,7 +37,9 @@ pub struct Tally {
 }
 
 /// No case yet.
-pub fn none() -> Tally {
+pub fn none() -> Tally
+    ensures { λ r. ⌜ r ≡ noCase ⌝ }
+{
     Tally {
         compared: 0,
         differ: 0,
@@ -44,7 +48,9 @@ pub fn none() -> Tally {
 }
 
 /// The outcome, or what differs where nothing did before.
-pub fn and(o: Outcome, fine: bool, differs: u32) -> Outcome {
+pub fn and(o: Outcome, fine: bool, differs: u32) -> Outcome
+    ensures { λ r. ⌜ r ≡ joined o fine differs ⌝ }
+{
     let cursor = o.cursor;
     if fine {
         return o;
@@ -59,7 +65,9 @@ pub fn and(o: Outcome, fine: bool, differs: u32) -> Outcome {
 }
 
 /// The outcome with that of scratch, which is all zero after success.
-pub fn with_scratch(o: Outcome, words: &[u32], floats: &[f32]) -> Outcome {
+pub fn with_scratch(o: Outcome, words: &[u32], floats: &[f32]) -> Outcome
+    ensures { λ r. ⌜ r ≡ scratched o (now (words .entry)) (now (floats .entry)) ⌝ }
+{
     let p = and(o, replays::all_words(words, 0, 0), SCRATCH);
     and(p, replays::all_zero(floats), SCRATCH)
 }
@@ -84,7 +92,9 @@ fn say(differs: u32) {
 }
 
 /// The tally with one case more. What differs is said at once.
-pub fn with_case(t: Tally, o: Outcome) -> Tally {
+pub fn with_case(t: Tally, o: Outcome) -> Tally
+    ensures { λ r. ⌜ r ≡ counted t o ⌝ }
+{
     let compared = std::num::wrapping_add_u32(t.compared, 1);
     let cursor = o.cursor;
     let mut differ = t.differ;
@@ -101,7 +111,9 @@ pub fn with_case(t: Tally, o: Outcome) -> Tally {
 }
 
 /// The tally at the end of the list, whose cursor is `c`; a case of another kind is a fault.
-pub fn ended(t: Tally, kind: u32, c: Cursor) -> Tally {
+pub fn ended(t: Tally, kind: u32, c: Cursor) -> Tally
+    ensures { λ r. ⌜ r ≡ closed t kind c ⌝ }
+{
     let mut cursor = c;
     if kind != 0 {
         cursor = cases::faulted(c, cases::UNEXPECTED);

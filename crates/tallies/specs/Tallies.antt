@@ -1,0 +1,36 @@
+-- How a case came out, and how many did. Assumes nothing.
+use mathlib.Core.Bool.{Bool, cond}
+use mathlib.Core.List.{List}
+use Prim.Native.Nat.{ℕ, _+_, _%_, _^_}
+use lib.Dec.{eqb}
+use lib.Ieee.{Float}
+use Rattle.cases.specs.declared.Cursor.{Cursor}
+use Rattle.cases.specs.Text.{first, faulted}
+use Rattle.replays.specs.Compare.{holdsOnly, allZero}
+use Rattle.tallies.specs.declared.Outcome.{Outcome}
+use Rattle.tallies.specs.declared.Tally.{Tally}
+
+unfoldable pub noCase : Tally
+noCase = record { compared = 0; differ = 0; cursor = first }
+
+-- What differed first is kept
+unfoldable pub joined : Outcome → Bool → ℕ → Outcome
+joined o fine differs =
+    cond fine o (cond (eqb (o .differs) 0) (record { differs = differs; cursor = o .cursor }) o)
+
+-- "Scratch .. all zero after success": a place that is not is difference 7
+unfoldable pub scratched : Outcome → List ℕ → List Float → Outcome
+scratched o words floats = joined (joined o (holdsOnly 0 words) 7) (allZero floats) 7
+
+unfoldable pub counted : Tally → Outcome → Tally
+counted t o =
+    record {
+      compared = (t .compared + 1) % 2 ^ 32;
+      differ = cond (eqb (o .differs) 0) (t .differ) ((t .differ + 1) % 2 ^ 32);
+      cursor = o .cursor;
+    }
+
+-- A case of another kind than 0, the end, is a number that the format does not allow
+unfoldable pub closed : Tally → ℕ → Cursor → Tally
+closed t kind c =
+    record { compared = t .compared; differ = t .differ; cursor = cond (eqb kind 0) c (faulted c 4) }
