@@ -13,7 +13,7 @@ use Rattle.cases.specs.declared.Cursor.{Cursor}
 use Rattle.cases.specs.declared.Digits.{Digits}
 use Rattle.cases.specs.declared.Word.{Word}
 use Rattle.cases.specs.declared.Token.the-variants.{Number, End, TooLarge, Strange}
-use Rattle.cases.specs.Text.{within, after, skipped, digitOf, digitsOf, limit, counted, ended, tokenOf, tokenFrom, tokenAt, faulted, wordAt, sizeOf, sizeAt, wordsAt, floatOf, floatsAt, behind}
+use Rattle.cases.specs.Text.{within, after, skipped, digitOf, digitsOf, limit, counted, ended, tokenOf, tokenFrom, tokenAt, faulted, wordAt, sizeOf, sizeAt, areaOf, wordsAt, floatOf, floatsAt, behind}
 
 both : (x y : Bool) → x && y ≡ true → (x ≡ true) × (y ≡ true)
 both true y e = (refl, e)
@@ -94,6 +94,10 @@ module _ (most : ℕ) (text : List ℕ) (c : Cursor) (w : Word) (e : w ≡ wordA
       (c′ : Cursor) → c′ ≡ faulted (w .cursor) 4 → most < w .value → record { value = 0; cursor = c′ } ≡ sizeAt most text c
   unfolding sizeAt sizeOf
   size-large c′ f h = rw (← e, lt-leb (w .value) most h, f)
+
+pub area-is : (a b : ℕ) → a ≤ 65536 → b ≤ 65536 → areaOf a b ≡ a * b
+unfolding areaOf
+area-is a b h k = rw (le-leb a 65536 h, le-leb b 65536 k)
 
 -- The next of the numbers that are left
 pub words-turn :
