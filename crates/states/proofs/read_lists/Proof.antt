@@ -1,15 +1,10 @@
--- `states::read_lists` is safe: each part is as long as it says. Assumes nothing.
+-- `states::read_lists` meets its contract: each part is as long as it says. Assumes nothing.
 use native.Mathlib.Omega.{arith}
 use lib.ListN.{length-take}
+use Rattle.states.proofs.Reading.{lists-made}
 use borrow.Author.Needs.{needs}
 use Rattle.states.proofs.read_lists.Statement.{statement}
 use Rattle.states.proofs.read_lists.Tie as tie
-
-faulted-requires : tie.Need-faulted-requires
-faulted-requires c κs = search needs
-
-returns : tie.Need-returns
-returns c = search needs
 
 slice-relend-prefix-read-words : tie.Need-slice-relend-prefix-read-words
 slice-relend-prefix-read-words c = search needs
@@ -44,15 +39,17 @@ same-length c = search needs
 same-length-2 : tie.Need-same-length-2
 same-length-2 c = search needs
 
-returns-2 : tie.Need-returns-2
-returns-2 c = search needs
+returns : tie.Need-returns
+returns c =
+    let w = c .before .before .before .before .before .before .before .before .before .before .read-words in
+    let f = c .before .before .before .before .before .before .read-floats in
+    let b = c .before .before .read-blocks in
+    lists-made _ _ _ _ _ (c .before .before .before .before .before .before .before .before .before .before .before .before .before .before .before .pre) _ (w .result) (w .ensures .0) (w .ensures .1) _ (f .result) (f .ensures .0) (f .ensures .1) _ (b .result) (b .ensures)
 
 pub read-lists-spec : {M : Type 1} → statement M
 read-lists-spec =
     tie.close
     (tie.spec
-    faulted-requires
-    returns
     slice-relend-prefix-read-words
     slice-aggregate-read-words
     read-words-requires
@@ -64,4 +61,4 @@ read-lists-spec =
     read-blocks-requires
     same-length
     same-length-2
-    returns-2)
+    returns)

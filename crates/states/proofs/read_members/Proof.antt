@@ -1,26 +1,17 @@
--- `states::read_members` is safe and ends: the slice keeps its length. Assumes nothing.
-use mathlib.Core.Path.{_≡_, refl}
-use Prim.Native.Nat.{_-_}
-use native.Mathlib.Omega.{arith}
-use lib.ListN.{length, length-set}
+-- `states::read_members` meets its contract: what is left says what the whole says. Assumes nothing.
+use Rattle.states.proofs.Reading.{Members, members-none, members-turn, members-end}
 use borrow.Author.Needs.{needs}
 use Rattle.states.proofs.read_members.Statement.{statement}
 use Rattle.states.proofs.read_members.Tie as tie
 
 abbrev Inv-loop : tie.InvT-loop
-Inv-loop text out₀ from count i₀ left₀ cursor₀ out i left cursor = length out ≡ length out₀
+Inv-loop text out₀ from count i₀ left₀ cursor₀ out i left cursor = Members text from count cursor₀ out₀ out i left cursor
 
 abbrev μ-loop : tie.MeasureT-loop
-μ-loop text out₀ from count i₀ left₀ cursor₀ out i left cursor = length out - i
+μ-loop text out₀ from count i₀ left₀ cursor₀ out i left cursor = left
 
 loop-holds : tie.Need-loop-holds Inv-loop μ-loop
-loop-holds c = refl
-
-same-length : tie.Need-same-length Inv-loop μ-loop
-same-length c = c .before .before .loop .inv
-
-returns : tie.Need-returns Inv-loop μ-loop
-returns c = search needs
+loop-holds c = members-none _ _ _ _ _ (search needs)
 
 read-word-requires : tie.Need-read-word-requires Inv-loop μ-loop
 read-word-requires c κs = search needs
@@ -38,16 +29,18 @@ sub-left : tie.Need-sub-left Inv-loop μ-loop
 sub-left c = search needs
 
 loop-less : tie.Need-loop-less Inv-loop μ-loop
-loop-less c = simp length-set (omega arith)
+loop-less c = search needs
 
 loop-again : tie.Need-loop-again Inv-loop μ-loop
-loop-again c = simp length-set (c .before .before .before .before .loop .inv)
+loop-again c =
+    let r = c .before in
+    members-turn _ _ _ _ _ _ _ _ _ (r .before .before .loop .inv) (r .read-word .result) (r .read-word .ensures) (search needs)
 
-same-length-2 : tie.Need-same-length-2 Inv-loop μ-loop
-same-length-2 c = c .before .loop .inv
+same-length : tie.Need-same-length Inv-loop μ-loop
+same-length c = c .before .loop .inv .long
 
-returns-2 : tie.Need-returns-2 Inv-loop μ-loop
-returns-2 c = search needs
+returns : tie.Need-returns Inv-loop μ-loop
+returns c = members-end _ _ _ _ _ _ _ _ _ (c .before .loop .inv) (search needs)
 
 pub read-members-spec : {M : Type 1} → statement M
 read-members-spec =
@@ -56,8 +49,6 @@ read-members-spec =
     Inv-loop
     μ-loop
     loop-holds
-    same-length
-    returns
     read-word-requires
     mul-out
     slice-write-out
@@ -65,5 +56,5 @@ read-members-spec =
     sub-left
     loop-less
     loop-again
-    same-length-2
-    returns-2)
+    same-length
+    returns)
