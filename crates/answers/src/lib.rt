@@ -48,7 +48,7 @@ fn refused(refusal: usize, first: usize, second: usize) -> Said
 }
 
 /// A refusal's number and places.
-fn of_refusal(r: Refusal) -> Said
+pub fn of_refusal(r: Refusal) -> Said
     ensures { λ s. ⌜ codeIn s ≡ codeOf r ⌝ }
 {
     match r {

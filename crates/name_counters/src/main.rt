@@ -100,8 +100,8 @@ fn put_refusal(table: u32, asked: usize, r: Refusal) {
         refusals::put_refusal(r);
     }
     if table == REFUSALS {
-        let code = refusals::code_of(r);
-        tables::put_row(asked, code.number, code.first, code.second);
+        let said = answers::of_refusal(r);
+        tables::put_row(asked, said.refusal, said.first, said.second);
     }
 }
 

@@ -3,11 +3,10 @@ ghost use mathlib.Core.Path.{_≡_};
 ghost use mathlib.Core.Bool.{true};
 ghost use Prim.Native.Nat.{_≤_};
 ghost use lib.ListN.{length};
-ghost use Rattle.rules.specs.Refusals.{code, codeOf};
 ghost use Rattle.replays.specs.Compare.{holdsOnly};
 ghost use Rattle.refusals.specs.declared.Left.the-variants.{Zeroed};
 ghost use Rattle.refusals.specs.Junk.{rising, nextWord, nextFloat, wordsStand, floatsStand, junkWord, junkFloat, scratchStands, untouched};
-ghost use Rattle.refusals.specs.Given.{wideOf, codeIn, bitsOf};
+ghost use Rattle.refusals.specs.Given.{wideOf, bitsOf};
 use cases::Cursor;
 use cases::Size;
 use libc::STDOUT_FILENO;
@@ -17,13 +16,6 @@ use rules::Refusal;
 const WORDS: u32 = 0xEF00_0000;
 
 const FLOATS: f32 = 1.5;
-
-/// A refusal's number and places.
-pub struct Code {
-    pub number: usize,
-    pub first: usize,
-    pub second: usize,
-}
 
 /// What became of lent places: they stand as they were, they are all zero, or neither.
 pub enum Left {
@@ -187,37 +179,6 @@ pub fn scratch_left(words: &[u32], floats: &[f32]) -> Left
     Left::Written
 }
 
-fn coded(number: usize, first: usize, second: usize) -> Code
-    ensures { λ r. ⌜ codeIn r ≡ code number first second ⌝ }
-{
-    Code {
-        number: number,
-        first: first,
-        second: second,
-    }
-}
-
-/// The number and places of a refusal.
-pub fn code_of(r: Refusal) -> Code
-    ensures { λ s. ⌜ codeIn s ≡ codeOf r ⌝ }
-{
-    match r {
-        Refusal::Dimension => coded(1, 0, 0),
-        Refusal::Nodes => coded(2, 0, 0),
-        Refusal::Lanes => coded(3, 0, 0),
-        Refusal::Parameter => coded(4, 0, 0),
-        Refusal::Threshold => coded(5, 0, 0),
-        Refusal::Buffer => coded(6, 0, 0),
-        Refusal::Root(at) => coded(7, at, 0),
-        Refusal::Query => coded(8, 0, 0),
-        Refusal::Job(at) => coded(9, at, 0),
-        Refusal::Pair(v, w) => coded(10, v.0 as usize, w.0 as usize),
-        Refusal::Draws => coded(11, 0, 0),
-        Refusal::State => coded(12, 0, 0),
-        Refusal::Step(at) => coded(13, at, 0),
-    }
-}
-
 /// Prints a number behind a text.
 pub fn put(before: &[u8], n: usize) {
     io::write_all(STDOUT_FILENO, before);
@@ -231,10 +192,10 @@ pub fn put_word(before: &[u8], word: u32) {
 
 /// Prints a refusal's number and places.
 pub fn put_refusal(r: Refusal) {
-    let code = code_of(r);
-    put(b": ", code.number);
-    put(b",", code.first);
-    put(b",", code.second);
+    let said = answers::of_refusal(r);
+    put(b": ", said.refusal);
+    put(b",", said.first);
+    put(b",", said.second);
 }
 
 fn put_place(i: usize, column: usize, node: u32) {
