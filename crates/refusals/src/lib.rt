@@ -34,7 +34,7 @@ pub fn wide(word: u32) -> usize
     word as usize
 }
 
-/// The float of a case's bits, a NaN too.
+/// The float of a case's bits: of NaNs 0x7FC00000 alone is read as one, and any other as 0.0.
 pub fn float_of(bits: u32) -> f32
     ensures { λ r. ⌜ r ≡ bitsOf bits ⌝ }
 {
