@@ -4,6 +4,7 @@ use mathlib.Core.List.{List, [], _∷_}
 use Prim.Native.Nat.{ℕ, zero, suc, _+_, _%_, _^_}
 use lib.Dec.{eqb, ltb}
 use lib.Ieee.{Float, binary32, add, ofBits, ne}
+use Rattle.replays.specs.Compare.{holdsOnly, allZero}
 use Rattle.refusals.specs.declared.Left.{Left}
 use Rattle.refusals.specs.declared.Left.the-variants.{Untouched, Zeroed, Written}
 
@@ -46,7 +47,9 @@ junkFloat = ofBits binary32 0x3FC00000
 unfoldable pub scratchStands : List ℕ → List Float → Bool
 scratchStands words floats = cond (wordsStand 0 0 junkWord words) (floatsStand 0 junkFloat floats) false
 
-unfoldable pub untouched : Left → Bool
-untouched Untouched = true
-untouched Zeroed = false
-untouched Written = false
+-- .. or zero in every place
+unfoldable pub scratchZero : List ℕ → List Float → Bool
+scratchZero words floats = cond (holdsOnly 0 words) (allZero floats) false
+
+unfoldable pub leftOf : List ℕ → List Float → Left
+leftOf words floats = cond (scratchStands words floats) Untouched (cond (scratchZero words floats) Zeroed Written)

@@ -1,11 +1,8 @@
 // The common ground of the refusal tests: a case's numbers and runs, junk in lent places, what became of it after a call, and the parts of a line.
 ghost use mathlib.Core.Path.{_≡_};
-ghost use mathlib.Core.Bool.{true};
 ghost use Prim.Native.Nat.{_≤_};
 ghost use lib.ListN.{length};
-ghost use Rattle.replays.specs.Compare.{holdsOnly};
-ghost use Rattle.refusals.specs.declared.Left.the-variants.{Zeroed};
-ghost use Rattle.refusals.specs.Junk.{rising, nextWord, nextFloat, wordsStand, floatsStand, junkWord, junkFloat, scratchStands, untouched};
+ghost use Rattle.refusals.specs.Junk.{rising, nextWord, nextFloat, wordsStand, floatsStand, junkWord, junkFloat, scratchStands, scratchZero, leftOf};
 ghost use Rattle.refusals.specs.Given.{wideOf, bitsOf};
 use cases::Cursor;
 use cases::Size;
@@ -157,7 +154,7 @@ fn kept(words: &[u32], floats: &[f32]) -> bool
 }
 
 fn zeroed(words: &[u32], floats: &[f32]) -> bool
-    ensures { λ r. ⌜ (r ≡ true → holdsOnly 0 (now (words .entry)) ≡ true) ⌝ }
+    ensures { λ r. ⌜ r ≡ scratchZero (now (words .entry)) (now (floats .entry)) ⌝ }
 {
     if replays::all_words(words, 0, 0) {
         return replays::all_zero(floats);
@@ -167,8 +164,7 @@ fn zeroed(words: &[u32], floats: &[f32]) -> bool
 
 /// What became of both scratch slices after `fill_scratch` and a call.
 pub fn scratch_left(words: &[u32], floats: &[f32]) -> Left
-    ensures { λ r. ⌜ untouched r ≡ scratchStands (now (words .entry)) (now (floats .entry)) ⌝ }
-    ensures { λ r. ⌜ (r ≡ Zeroed → holdsOnly 0 (now (words .entry)) ≡ true) ⌝ }
+    ensures { λ r. ⌜ r ≡ leftOf (now (words .entry)) (now (floats .entry)) ⌝ }
 {
     if kept(words, floats) {
         return Left::Untouched;

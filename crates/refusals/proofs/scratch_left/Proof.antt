@@ -1,7 +1,6 @@
 -- `refusals::scratch_left` meets its contract. Assumes nothing.
-use mathlib.Core.Path.{sym, _∙_}
 use borrow.Author.Needs.{needs}
-use Rattle.refusals.specs.Junk.{untouched}
+use Rattle.refusals.specs.Junk.{leftOf}
 use Rattle.refusals.proofs.scratch_left.Statement.{statement}
 use Rattle.refusals.proofs.scratch_left.Tie as tie
 
@@ -9,19 +8,19 @@ kept-requires : tie.Need-kept-requires
 kept-requires c κs = search needs
 
 returns : tie.Need-returns
-unfolding untouched
-returns c = (sym (c .if1 .taken) ∙ c .before .kept .ensures, λ e. cc)
+unfolding leftOf
+returns c = rw (← c .before .kept .ensures, c .if1 .taken)
 
 zeroed-requires : tie.Need-zeroed-requires
 zeroed-requires c κs = search needs
 
 returns-2 : tie.Need-returns-2
-unfolding untouched
-returns-2 c = (sym (c .before .before .if1 .left) ∙ c .before .before .before .kept .ensures, λ _. c .before .zeroed .ensures (c .if2 .taken))
+unfolding leftOf
+returns-2 c = rw (← c .before .before .before .kept .ensures, c .before .before .if1 .left, ← c .before .zeroed .ensures, c .if2 .taken)
 
 returns-3 : tie.Need-returns-3
-unfolding untouched
-returns-3 c = (sym (c .before .before .if1 .left) ∙ c .before .before .before .kept .ensures, λ e. cc)
+unfolding leftOf
+returns-3 c = rw (← c .before .before .before .kept .ensures, c .before .before .if1 .left, ← c .before .zeroed .ensures, c .if2 .left)
 
 pub scratch-left-spec : {M : Type 1} → statement M
 scratch-left-spec = tie.close (tie.spec kept-requires returns zeroed-requires returns-2 returns-3)
