@@ -1,14 +1,19 @@
--- One turn and the end of each loop over junk. Assumes nothing.
+-- One turn and the end of each loop over junk and over lanes, and a run that is read. Assumes nothing.
 use mathlib.Core.Path.{_≡_, refl, sym, ap, _∙_}
 use mathlib.Core.Bool.{Bool, true, false, not}
-use mathlib.Core.List.{List, [], _∷_, _++_, append-assoc, append-nil}
+use mathlib.Core.List.{List, [], _∷_, _++_, map, append-assoc, append-nil}
 use Prim.Native.Nat.{ℕ, suc, _+_, _-_, _≤_, _<_}
 use native.Mathlib.Numerals.{add-one}
 use native.Mathlib.Omega.{arith}
-use lib.Dec.{eqb}
 use lib.ListN.{length, take, drop, getD, set, length-set, drop-of-length-le}
-use lib.Seq.{take-all, take-suc-set, drop-cons}
+use lib.Seq.{length-take-le, take-all, take-suc-set, drop-cons}
 use borrow.Author.Tests.{lt-ltb, le-ltb, eq-eqb, ne-eqb}
+use Rattle.cases.specs.declared.Cursor.{Cursor}
+use Rattle.cases.specs.declared.Size.{Size}
+use Rattle.cases.specs.declared.Word.{Word}
+use Rattle.cases.specs.Text.{wordAt, sizeAt, behind}
+use Rattle.cases.proofs.Laws.{words-turn, words-none}
+use Rattle.refusals.specs.Given.{bitsOf, lanesAt, runAt, runIn}
 use Rattle.refusals.specs.Junk.{rising, stands, differs}
 
 module _ {A : Type 0} (next : A → A) where
@@ -60,3 +65,23 @@ word-same x y e = ap not (eq-eqb x y e)
 
 pub word-differs : (x y : ℕ) → (x ≡ y → ⊥) → differs x y ≡ true
 word-differs x y e = ap not (ne-eqb x y e)
+
+pub lanes-turn :
+    (n i : ℕ) (text : List ℕ) (c : Cursor) (w : Word) → w ≡ wordAt text c → i < n
+    → lanesAt (n - i) text c ≡ bitsOf (w .value) ∷ lanesAt (n - (i + 1)) text (w .cursor)
+unfolding lanesAt
+lanes-turn n i text c w e h = ap (map bitsOf) (words-turn n i text c w e h)
+
+pub lanes-none : (text : List ℕ) (c : Cursor) → lanesAt 0 text c ≡ []
+unfolding lanesAt
+lanes-none text c = ap (map bitsOf) (words-none text c)
+
+module _ {A : Type 0} (listed : ℕ → List ℕ → Cursor → List A) (text : List ℕ) (c : Cursor) (out : List A) where
+  pub run-made :
+      (s : Size) → s ≡ sizeAt (length out) text c → s .value ≤ length out → (part : List A) (next : Cursor)
+      → part ≡ listed (length (take (s .value) out)) text (s .cursor) → next ≡ behind (length (take (s .value) out)) text (s .cursor)
+      → (record { value = s .value; cursor = next } ≡ runAt (length out) text c) × (part ++ drop (s .value) out ≡ runIn listed text c out)
+  unfolding runAt runIn
+  run-made s read fits part next made there =
+      let long = length-take-le (s .value) out fits in
+      (rw (← read, there, long), rw (← read, made, long))

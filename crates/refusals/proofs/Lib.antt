@@ -1,2 +1,2 @@
--- Laws of junk.
+-- Laws of junk and of lanes.
 pub mod Laws

@@ -2,8 +2,9 @@
 ghost use mathlib.Core.Path.{_≡_};
 ghost use Prim.Native.Nat.{_≤_};
 ghost use lib.ListN.{length};
+ghost use Rattle.cases.specs.Text.{wordsAt, behind};
 ghost use Rattle.refusals.specs.Junk.{rising, nextWord, nextFloat, wordsStand, floatsStand, junkWord, junkFloat, scratchStands, scratchZero, leftOf};
-ghost use Rattle.refusals.specs.Given.{wideOf, bitsOf};
+ghost use Rattle.refusals.specs.Given.{wideOf, bitsOf, lanesAt, runAt, runIn};
 use cases::Cursor;
 use cases::Size;
 use libc::STDOUT_FILENO;
@@ -45,6 +46,8 @@ pub fn float_of(bits: u32) -> f32
 /// Reads a run of words, after its length, to the front of the slice: how many, and the place behind. A run that is longer is a fault.
 pub fn read_run(text: &[u8], c: Cursor, out: &mut [u32]) -> Size
     ensures { λ r. ⌜ r .value ≤ length (now (out .exit)) ⌝ }
+    ensures { λ r. ⌜ r ≡ runAt (length (now (out .entry))) (now (text .entry)) c ⌝ }
+    ensures { λ _. ⌜ now (out .exit) ≡ runIn wordsAt (now (text .entry)) c (now (out .entry)) ⌝ }
 {
     let count = cases::read_size(text, c, out.len());
     let long = count.value;
@@ -55,20 +58,31 @@ pub fn read_run(text: &[u8], c: Cursor, out: &mut [u32]) -> Size
     }
 }
 
-/// Reads a run of floats by their bits, a NaN's too, as `read_run` reads words.
-pub fn read_lanes(text: &[u8], c: Cursor, out: &mut [f32]) -> Size
-    ensures { λ r. ⌜ r .value ≤ length (now (out .exit)) ⌝ }
+// Fills the slice with the next numbers, as the bits of floats.
+fn lanes(text: &[u8], c: Cursor, out: &mut [f32]) -> Cursor
+    ensures { λ _. ⌜ now (out .exit) ≡ lanesAt (length (now (out .entry))) (now (text .entry)) c ⌝ }
+    ensures { λ r. ⌜ r ≡ behind (length (now (out .entry))) (now (text .entry)) c ⌝ }
 {
-    let count = cases::read_size(text, c, out.len());
-    let long = count.value;
-    let mut cursor = count.cursor;
     let mut i: usize = 0;
-    while i < long {
+    let mut cursor = c;
+    while i < out.len() {
         let w = cases::read_word(text, cursor);
         out[i] = float_of(w.value);
         cursor = w.cursor;
         i += 1;
     }
+    cursor
+}
+
+/// Reads a run of floats by their bits, as `read_run` reads words.
+pub fn read_lanes(text: &[u8], c: Cursor, out: &mut [f32]) -> Size
+    ensures { λ r. ⌜ r .value ≤ length (now (out .exit)) ⌝ }
+    ensures { λ r. ⌜ r ≡ runAt (length (now (out .entry))) (now (text .entry)) c ⌝ }
+    ensures { λ _. ⌜ now (out .exit) ≡ runIn lanesAt (now (text .entry)) c (now (out .entry)) ⌝ }
+{
+    let count = cases::read_size(text, c, out.len());
+    let long = count.value;
+    let cursor = lanes(text, count.cursor, &mut out[..long]);
     Size {
         value: long,
         cursor: cursor,

@@ -1,65 +1,41 @@
--- `refusals::read_lanes` meets its contract: the slice keeps its length, which the run's is within. Assumes nothing.
-use mathlib.Core.Path.{_≡_, refl}
-use Prim.Native.Nat.{_-_, _≤_}
+-- `refusals::read_lanes` meets its contract: the part is as long as the run. Assumes nothing.
 use native.Mathlib.Omega.{arith}
-use lib.ListN.{length, length-set}
+use lib.ListN.{length-take}
+use Rattle.refusals.specs.Given.{lanesAt}
+use Rattle.refusals.proofs.Laws.{run-made}
 use borrow.Author.Needs.{needs}
 use Rattle.refusals.proofs.read_lanes.Statement.{statement}
 use Rattle.refusals.proofs.read_lanes.Tie as tie
 
-abbrev Inv-loop : tie.InvT-loop
-Inv-loop text out₀ long cursor₀ i₀ out cursor i = (long ≤ length out₀) × (length out ≡ length out₀)
-
-abbrev μ-loop : tie.MeasureT-loop
-μ-loop text out₀ long cursor₀ i₀ out cursor i = long - i
-
-read-size-requires : tie.Need-read-size-requires Inv-loop μ-loop
+read-size-requires : tie.Need-read-size-requires
 read-size-requires c κs = search needs
 
-loop-holds : tie.Need-loop-holds Inv-loop μ-loop
-loop-holds c = search needs
+slice-relend-prefix-lanes : tie.Need-slice-relend-prefix-lanes
+slice-relend-prefix-lanes c = search needs
 
-read-word-requires : tie.Need-read-word-requires Inv-loop μ-loop
-read-word-requires c κs = search needs
+slice-aggregate-lanes : tie.Need-slice-aggregate-lanes
+slice-aggregate-lanes c = simp length-take (omega arith)
 
-float-of-requires : tie.Need-float-of-requires Inv-loop μ-loop
-float-of-requires c κs = search needs
+lanes-requires : tie.Need-lanes-requires
+lanes-requires c κs = search needs
 
-mul-out : tie.Need-mul-out Inv-loop μ-loop
-mul-out c = search needs
-
-slice-write-out : tie.Need-slice-write-out Inv-loop μ-loop
-slice-write-out c = search needs
-
-add-i : tie.Need-add-i Inv-loop μ-loop
-add-i c = search needs
-
-loop-less : tie.Need-loop-less Inv-loop μ-loop
-loop-less c = search needs
-
-loop-again : tie.Need-loop-again Inv-loop μ-loop
-loop-again c = search needs
-
-same-length : tie.Need-same-length Inv-loop μ-loop
+same-length : tie.Need-same-length
 same-length c = search needs
 
-returns : tie.Need-returns Inv-loop μ-loop
-returns c = search needs
+returns : tie.Need-returns
+returns c =
+    let s = c .before .before .before .before .read-size in
+    let r = c .before .before .lanes in
+    let made = run-made lanesAt _ _ _ (s .result) (s .ensures .0) (s .ensures .1) _ (r .result) (r .ensures .0) (r .ensures .1) in
+    (search needs, made)
 
 pub read-lanes-spec : {M : Type 1} → statement M
 read-lanes-spec =
     tie.close
     (tie.spec
-    Inv-loop
-    μ-loop
     read-size-requires
-    loop-holds
-    read-word-requires
-    float-of-requires
-    mul-out
-    slice-write-out
-    add-i
-    loop-less
-    loop-again
+    slice-relend-prefix-lanes
+    slice-aggregate-lanes
+    lanes-requires
     same-length
     returns)

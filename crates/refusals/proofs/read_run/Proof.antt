@@ -1,6 +1,8 @@
 -- `refusals::read_run` meets its contract: the part is as long as the run. Assumes nothing.
 use native.Mathlib.Omega.{arith}
 use lib.ListN.{length-take}
+use Rattle.cases.specs.Text.{wordsAt}
+use Rattle.refusals.proofs.Laws.{run-made}
 use borrow.Author.Needs.{needs}
 use Rattle.refusals.proofs.read_run.Statement.{statement}
 use Rattle.refusals.proofs.read_run.Tie as tie
@@ -21,7 +23,11 @@ same-length : tie.Need-same-length
 same-length c = search needs
 
 returns : tie.Need-returns
-returns c = search needs
+returns c =
+    let s = c .before .before .before .before .read-size in
+    let r = c .before .before .read-words in
+    let made = run-made wordsAt _ _ _ (s .result) (s .ensures .0) (s .ensures .1) _ (r .result) (r .ensures .0) (r .ensures .1) in
+    (search needs, made)
 
 pub read-run-spec : {M : Type 1} → statement M
 read-run-spec =
