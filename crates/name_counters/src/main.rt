@@ -1,13 +1,11 @@
 // Names counters: reads a game from stdin, teaches it, looks its queries up, and prints a table for a person and tables for a program.
 ghost use mathlib.Core.Path.{_≡_};
 ghost use lib.ListN.{length};
-use game::Game;
+use games::Game;
 use rules::Answer;
 use rules::Refusal;
 use rules::SearchAnswer;
 
-mod game;
-mod lines;
 mod tables;
 
 // The tables: counters by name for a person; ranks, nodes and bits; refusals.
@@ -70,7 +68,7 @@ fn put_result(
         tables::put_row(asked, rank, node, bits);
     }
     if table == PERSON {
-        tables::put_line(b"\n      ", rank, b"  ", text, game::name_of(wholes, node));
+        tables::put_line(b"\n      ", rank, b"  ", text, games::name_of(wholes, node));
     }
 }
 
@@ -86,8 +84,8 @@ fn put_results(
 ) {
     let mut i: usize = 0;
     while i < m {
-        let node = game::whole(nodes, i);
-        let bit = game::whole(bits, i);
+        let node = games::whole(nodes, i);
+        let bit = games::whole(bits, i);
         i += 1;
         put_result(text, wholes, table, asked, i, node, bit);
     }
@@ -173,7 +171,7 @@ fn put_asked(text: &[u8], wholes: &[u32], table: u32, asked: usize, node: usize)
             asked,
             b"  ",
             text,
-            game::name_of(wholes, node),
+            games::name_of(wholes, node),
         );
     }
 }
@@ -242,7 +240,7 @@ fn put_graph(graph: &[u32], n: usize, index_size: usize) {
         return;
     }
     while i < graph.len() {
-        put_edge(i / index_size, i % index_size, n, game::whole(graph, i));
+        put_edge(i / index_size, i % index_size, n, games::whole(graph, i));
         i += 1;
     }
 }
@@ -304,8 +302,8 @@ fn with_parts(text: &[u8], g: Game, wholes: &[u32], values: &[f32]) {
 fn name_counters(text: &[u8]) {
     let mut wholes = [0u32; 388];
     let mut values = values_room();
-    let g = game::read(text, &mut wholes, &mut values);
-    if g.fault != game::FINE {
+    let g = games::read(text, &mut wholes, &mut values);
+    if g.fault != games::FINE {
         tables::put_fault(text, g);
         return;
     }

@@ -1,6 +1,5 @@
 // What is printed: a table for a person, tables for a program, and what is wrong with a file. A line is started by what is printed, and the last ended by `main`.
-use crate::game::Game;
-use crate::lines;
+use games::Game;
 use libc::STDOUT_FILENO;
 
 /// Prints some bytes.
@@ -52,7 +51,7 @@ fn line_start(text: &[u8], line: u32) -> usize {
     at
 }
 
-/// What is wrong with a file, and where: a line for each of the faults of `game`, in the order of their numbers.
+/// What is wrong with a file, and where: a line for each of the faults of `games`, in the order of their numbers.
 pub fn put_fault(text: &[u8], g: Game) {
     let messages = b"nothing is wrong
 a line starts with lanes, teach, names, roots, counter or query

@@ -1,8 +1,8 @@
--- `name_counters::lines::count_words` is safe and ends. Assumes nothing.
+-- `lines::count_words` is safe and ends. Assumes nothing.
 use Prim.Native.Nat.{_-_}
 use borrow.Author.Needs.{needs}
-use Rattle.name_counters.proofs.lines.count_words.Statement.{statement}
-use Rattle.name_counters.proofs.lines.count_words.Tie as tie
+use Rattle.lines.proofs.count_words.Statement.{statement}
+use Rattle.lines.proofs.count_words.Tie as tie
 
 abbrev Inv-loop : tie.InvT-loop
 Inv-loop text from count₀ at₀ count at = Unit {0}

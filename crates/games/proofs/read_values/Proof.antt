@@ -1,16 +1,16 @@
--- `name_counters::game::read_wholes` is safe and ends. Assumes nothing.
+-- `games::read_values` is safe and ends. Assumes nothing.
 use mathlib.Core.Path.{_≡_, refl}
 use Prim.Native.Nat.{_-_}
 use lib.ListN.{length}
 use borrow.Author.Needs.{needs}
-use Rattle.name_counters.proofs.game.read_wholes.Statement.{statement}
-use Rattle.name_counters.proofs.game.read_wholes.Tie as tie
+use Rattle.games.proofs.read_values.Statement.{statement}
+use Rattle.games.proofs.read_values.Tie as tie
 
 abbrev Inv-loop : tie.InvT-loop
-Inv-loop text g first end wholes₀ at₀ i₀ wholes at i = length wholes ≡ length wholes₀
+Inv-loop text g first end values₀ at₀ i₀ values at i = length values ≡ length values₀
 
 abbrev μ-loop : tie.MeasureT-loop
-μ-loop text g first end wholes₀ at₀ i₀ wholes at i = end - i
+μ-loop text g first end values₀ at₀ i₀ values at i = end - i
 
 loop-holds : tie.Need-loop-holds Inv-loop μ-loop
 loop-holds c = refl
@@ -27,6 +27,9 @@ returns c = search needs
 next-word-requires : tie.Need-next-word-requires Inv-loop μ-loop
 next-word-requires c κs = search needs
 
+is-number-requires : tie.Need-is-number-requires Inv-loop μ-loop
+is-number-requires c κs = search needs
+
 read-to-requires-2 : tie.Need-read-to-requires-2 Inv-loop μ-loop
 read-to-requires-2 c κs = search needs
 
@@ -36,11 +39,14 @@ same-length-2 c = search needs
 returns-2 : tie.Need-returns-2 Inv-loop μ-loop
 returns-2 c = search needs
 
-mul-wholes : tie.Need-mul-wholes Inv-loop μ-loop
-mul-wholes c = search needs
+value-requires : tie.Need-value-requires Inv-loop μ-loop
+value-requires c κs = search needs
 
-slice-write-wholes : tie.Need-slice-write-wholes Inv-loop μ-loop
-slice-write-wholes c = search needs
+mul-values : tie.Need-mul-values Inv-loop μ-loop
+mul-values c = search needs
+
+slice-write-values : tie.Need-slice-write-values Inv-loop μ-loop
+slice-write-values c = search needs
 
 add-i : tie.Need-add-i Inv-loop μ-loop
 add-i c = search needs
@@ -60,8 +66,8 @@ same-length-3 c = search needs
 returns-3 : tie.Need-returns-3 Inv-loop μ-loop
 returns-3 c = search needs
 
-pub read-wholes-spec : {M : Type 1} → statement M
-read-wholes-spec =
+pub read-values-spec : {M : Type 1} → statement M
+read-values-spec =
     tie.close
     (tie.spec
     Inv-loop
@@ -71,11 +77,13 @@ read-wholes-spec =
     same-length
     returns
     next-word-requires
+    is-number-requires
     read-to-requires-2
     same-length-2
     returns-2
-    mul-wholes
-    slice-write-wholes
+    value-requires
+    mul-values
+    slice-write-values
     add-i
     loop-less
     loop-again

@@ -1,9 +1,9 @@
--- `name_counters::game::read` is safe and ends. Assumes nothing.
+-- `games::read` is safe and ends. Assumes nothing.
 use mathlib.Core.Path.{_≡_, refl}
 use lib.ListN.{length}
 use borrow.Author.Needs.{needs}
-use Rattle.name_counters.proofs.game.read.Statement.{statement}
-use Rattle.name_counters.proofs.game.read.Tie as tie
+use Rattle.games.proofs.read.Statement.{statement}
+use Rattle.games.proofs.read.Tie as tie
 
 abbrev Inv-loop : tie.InvT-loop
 Inv-loop text wholes₀ values₀ g₀ turns₀ wholes values g turns = (length wholes ≡ length wholes₀) × (length values ≡ length values₀)

@@ -1,9 +1,9 @@
--- `name_counters::lines::next_word` is safe and ends. Assumes nothing.
+-- `lines::next_word` is safe and ends. Assumes nothing.
 use Prim.Native.Nat.{_-_}
 use lib.ListN.{length}
 use borrow.Author.Needs.{needs}
-use Rattle.name_counters.proofs.lines.next_word.Statement.{statement}
-use Rattle.name_counters.proofs.lines.next_word.Tie as tie
+use Rattle.lines.proofs.next_word.Statement.{statement}
+use Rattle.lines.proofs.next_word.Tie as tie
 
 abbrev Inv-loop : tie.InvT-loop
 Inv-loop text from start end₀ spelt₀ shape₀ digits₀ end spelt shape digits = Unit {0}

@@ -1,9 +1,9 @@
--- `name_counters::lines::find` is safe and ends. Assumes nothing.
+-- `lines::find` is safe and ends. Assumes nothing.
 use Prim.Native.Nat.{_-_}
 use lib.ListN.{length}
 use borrow.Author.Needs.{needs}
-use Rattle.name_counters.proofs.lines.find.Statement.{statement}
-use Rattle.name_counters.proofs.lines.find.Tie as tie
+use Rattle.lines.proofs.find.Statement.{statement}
+use Rattle.lines.proofs.find.Tie as tie
 
 abbrev Inv-loop : tie.InvT-loop
 Inv-loop text from what at₀ at = Unit {0}

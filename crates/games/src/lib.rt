@@ -1,5 +1,4 @@
 // Reads a game: games/README.md gives the lines of its file.
-use crate::lines;
 use params::SsgParams;
 
 // The first words of lines, as they are spelt: a 1 and their bytes.
