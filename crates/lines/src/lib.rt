@@ -1,4 +1,8 @@
 // The text of a game: its lines, their words, and the decimals among them.
+ghost use mathlib.Core.Path.{_≡_};
+ghost use lib.IntN.{pos};
+ghost use lib.Ieee.{binary32, ofInt};
+ghost use Rattle.lines.specs.Words.{isBlank, stops, endFrom, speltWith, isDigit, digitsWith, shapeWithDigit, shapeWith, wordAt, wordsFrom, isNumber, scaleOf, valueOf};
 
 /// What ends a line.
 pub const LINE: u32 = 0;
@@ -39,7 +43,9 @@ pub struct Word {
     pub digits: u32,
 }
 
-fn is_blank(b: u8) -> bool {
+fn is_blank(b: u8) -> bool
+    ensures { λ r. ⌜ r ≡ isBlank b ⌝ }
+{
     if b == b' ' {
         return true;
     }
@@ -49,7 +55,9 @@ fn is_blank(b: u8) -> bool {
     b == b'\r'
 }
 
-fn stops(b: u8, what: u32) -> bool {
+fn stops(b: u8, what: u32) -> bool
+    ensures { λ r. ⌜ r ≡ stops b what ⌝ }
+{
     if b == b'\n' {
         return true;
     }
@@ -69,7 +77,9 @@ fn stops(b: u8, what: u32) -> bool {
 }
 
 /// The first place from `from` on where such an end is, or the text's.
-pub fn find(text: &[u8], from: usize, what: u32) -> usize {
+pub fn find(text: &[u8], from: usize, what: u32) -> usize
+    ensures { λ r. ⌜ r ≡ endFrom what (now (text .entry)) from ⌝ }
+{
     let mut at = from;
     while at < text.len() {
         if stops(text[at], what) {
@@ -80,14 +90,18 @@ pub fn find(text: &[u8], from: usize, what: u32) -> usize {
     at
 }
 
-fn spelt_with(spelt: u64, b: u8) -> u64 {
+fn spelt_with(spelt: u64, b: u8) -> u64
+    ensures { λ r. ⌜ r ≡ speltWith spelt b ⌝ }
+{
     if spelt > 0xFF_FFFF_FFFF_FFFF {
         return 0xFFFF_FFFF_FFFF_FFFF;
     }
     spelt * 256 + b as u64
 }
 
-fn is_digit(b: u8) -> bool {
+fn is_digit(b: u8) -> bool
+    ensures { λ r. ⌜ r ≡ isDigit b ⌝ }
+{
     if b < b'0' {
         return false;
     }
@@ -95,7 +109,9 @@ fn is_digit(b: u8) -> bool {
 }
 
 // All digits together stay below 2^24, so that binary32 holds them exactly.
-fn digits_with(digits: u32, b: u8) -> u32 {
+fn digits_with(digits: u32, b: u8) -> u32
+    ensures { λ r. ⌜ r ≡ digitsWith digits b ⌝ }
+{
     if digits > 1600000 {
         return digits;
     }
@@ -109,7 +125,9 @@ fn digits_with(digits: u32, b: u8) -> u32 {
 }
 
 // A digit more: three stand behind the point at most.
-fn shape_with_digit(shape: u32) -> u32 {
+fn shape_with_digit(shape: u32) -> u32
+    ensures { λ r. ⌜ r ≡ shapeWithDigit shape ⌝ }
+{
     if shape >= THREE_PLACES {
         return BAD;
     }
@@ -122,7 +140,9 @@ fn shape_with_digit(shape: u32) -> u32 {
     shape + 2
 }
 
-fn shape_with(shape: u32, digits: u32, b: u8) -> u32 {
+fn shape_with(shape: u32, digits: u32, b: u8) -> u32
+    ensures { λ r. ⌜ r ≡ shapeWith shape digits b ⌝ }
+{
     if is_digit(b) {
         if digits > 1600000 {
             return BAD;
@@ -133,6 +153,7 @@ fn shape_with(shape: u32, digits: u32, b: u8) -> u32 {
         if shape == START {
             return MINUS;
         }
+        return BAD;
     }
     if b == b'.' {
         if shape == WHOLE {
@@ -146,7 +167,9 @@ fn shape_with(shape: u32, digits: u32, b: u8) -> u32 {
 }
 
 /// The next word of a line.
-pub fn next_word(text: &[u8], from: usize) -> Word {
+pub fn next_word(text: &[u8], from: usize) -> Word
+    ensures { λ r. ⌜ r ≡ wordAt (now (text .entry)) from ⌝ }
+{
     let start = find(text, from, BLANKS);
     let mut end = start;
     let mut spelt: u64 = 1;
@@ -172,7 +195,9 @@ pub fn next_word(text: &[u8], from: usize) -> Word {
 }
 
 /// How many words a line has from a place on, and 1,024 where there are more.
-pub fn count_words(text: &[u8], from: usize) -> usize {
+pub fn count_words(text: &[u8], from: usize) -> usize
+    ensures { λ r. ⌜ r ≡ wordsFrom 1024 (now (text .entry)) from ⌝ }
+{
     let mut count: usize = 0;
     let mut at = from;
     while count < 1024 {
@@ -187,14 +212,18 @@ pub fn count_words(text: &[u8], from: usize) -> usize {
 }
 
 /// Whether a word is a number or `nan`.
-pub fn is_number(w: Word) -> bool {
+pub fn is_number(w: Word) -> bool
+    ensures { λ r. ⌜ r ≡ isNumber w ⌝ }
+{
     if w.spelt == NAN {
         return true;
     }
     w.shape % 2 == 1
 }
 
-fn scale(shape: u32) -> f32 {
+fn scale(shape: u32) -> f32
+    ensures { λ r. ⌜ r ≡ ofInt binary32 (pos (scaleOf shape)) ⌝ }
+{
     if shape < 5 {
         return 1.0;
     }
@@ -208,7 +237,9 @@ fn scale(shape: u32) -> f32 {
 }
 
 /// The binary32 number nearest to a decimal: both sides of the division are exact, so that it alone rounds.
-pub fn value(text: &[u8], w: Word) -> f32 {
+pub fn value(text: &[u8], w: Word) -> f32
+    ensures { λ r. ⌜ r ≡ valueOf (now (text .entry)) w ⌝ }
+{
     if w.spelt == NAN {
         return refusals::float_of(0x7FC0_0000);
     }

@@ -1,0 +1,3 @@
+-- Laws of steps over a text; worked words.
+pub mod Laws
+pub mod Worked
