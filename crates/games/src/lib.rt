@@ -1,4 +1,8 @@
 // Reads a game: games/README.md gives the lines of its file.
+ghost use mathlib.Core.Path.{_≡_};
+ghost use Prim.Native.Nat.{_%_};
+ghost use lib.ListN.{getD};
+ghost use Rattle.games.specs.Games.{nothing, readTo, put, wholesPut, valuesPut, ended, nameOf, lanesLine, withParams, teachLine, namesLine, rootsLine, withPoint, isPoint, read, pointLine, setting, lineRead, nextLine, wholeLine, fileRead};
 use params::SsgParams;
 
 // The first words of lines, as they are spelt: a 1 and their bytes.
@@ -59,7 +63,9 @@ pub struct Game {
     pub fault: u32,
 }
 
-fn nothing() -> Game {
+fn nothing() -> Game
+    ensures { λ r. ⌜ r ≡ nothing ⌝ }
+{
     let params = SsgParams::default();
     Game {
         dimension: 0,
@@ -76,7 +82,9 @@ fn nothing() -> Game {
 }
 
 // The game read up to a place, where something may be wrong.
-fn read_to(g: Game, place: usize, fault: u32) -> Game {
+fn read_to(g: Game, place: usize, fault: u32) -> Game
+    ensures { λ r. ⌜ r ≡ readTo g place fault ⌝ }
+{
     let mut r = g;
     r.place = place;
     r.fault = fault;
@@ -84,7 +92,9 @@ fn read_to(g: Game, place: usize, fault: u32) -> Game {
 }
 
 // Reads the next words of a line as whole numbers.
-fn read_wholes(text: &[u8], g: Game, first: usize, end: usize, wholes: &mut [u32]) -> Game {
+fn read_wholes(text: &[u8], g: Game, first: usize, end: usize, wholes: &mut [u32]) -> Game
+    ensures { λ r. ⌜ put r (now (wholes .exit)) ≡ wholesPut (now (text .entry)) g first end (now (wholes .entry)) ⌝ }
+{
     let mut at = g.place;
     let mut i = first;
     while i < end {
@@ -103,7 +113,9 @@ fn read_wholes(text: &[u8], g: Game, first: usize, end: usize, wholes: &mut [u32
 }
 
 // Reads the next words of a line as numbers.
-fn read_values(text: &[u8], g: Game, first: usize, end: usize, values: &mut [f32]) -> Game {
+fn read_values(text: &[u8], g: Game, first: usize, end: usize, values: &mut [f32]) -> Game
+    ensures { λ r. ⌜ put r (now (values .exit)) ≡ valuesPut (now (text .entry)) g first end (now (values .entry)) ⌝ }
+{
     let mut at = g.place;
     let mut i = first;
     while i < end {
@@ -122,7 +134,9 @@ fn read_values(text: &[u8], g: Game, first: usize, end: usize, values: &mut [f32
 }
 
 // The game after a line whose numbers are read: a word that is left over is wrong.
-fn ended(text: &[u8], g: Game) -> Game {
+fn ended(text: &[u8], g: Game) -> Game
+    ensures { λ r. ⌜ r ≡ ended (now (text .entry)) g ⌝ }
+{
     if g.fault != FINE {
         return g;
     }
@@ -133,12 +147,16 @@ fn ended(text: &[u8], g: Game) -> Game {
     read_to(g, w.start, MORE)
 }
 
-fn sized(x: u32) -> usize {
+fn sized(x: u32) -> usize
+    ensures { λ r. ⌜ r ≡ x ⌝ }
+{
     x as usize
 }
 
 /// The whole number at a place, and 0 behind the last.
-pub fn whole(wholes: &[u32], i: usize) -> usize {
+pub fn whole(wholes: &[u32], i: usize) -> usize
+    ensures { λ r. ⌜ r ≡ getD (now (wholes .entry)) i 0 ⌝ }
+{
     if i < wholes.len() {
         return sized(wholes[i]);
     }
@@ -146,17 +164,24 @@ pub fn whole(wholes: &[u32], i: usize) -> usize {
 }
 
 /// Where the name of a counter or query stands.
-pub fn name_of(wholes: &[u32], node: usize) -> usize {
+pub fn name_of(wholes: &[u32], node: usize) -> usize
+    ensures { λ r. ⌜ r ≡ nameOf (now (wholes .entry)) node ⌝ }
+{
     whole(wholes, std::num::wrapping_add_usize(PLACES, node))
 }
 
 // `lanes NAME..`
-fn lanes_line(text: &[u8], g: Game) -> Game {
+fn lanes_line(text: &[u8], g: Game) -> Game
+    ensures { λ r. ⌜ r ≡ lanesLine (now (text .entry)) g ⌝ }
+{
     let count = lines::count_words(text, g.place);
     if g.dimension != 0 {
         return read_to(g, g.place, LANES);
     }
-    if std::num::wrapping_sub_usize(count, 1) > 15 {
+    if count < 1 {
+        return read_to(g, g.place, LANES);
+    }
+    if count > 16 {
         return read_to(g, g.place, LANES);
     }
     let mut r = g;
@@ -166,7 +191,9 @@ fn lanes_line(text: &[u8], g: Game) -> Game {
 }
 
 // The game with the sizes and the threshold of a build.
-fn with_params(g: Game, wholes: &[u32], threshold: f32) -> Game {
+fn with_params(g: Game, wholes: &[u32], threshold: f32) -> Game
+    ensures { λ r. ⌜ r ≡ withParams g (now (wholes .entry)) threshold ⌝ }
+{
     let params = SsgParams {
         threshold: threshold,
         init_k: whole(wholes, SIZES),
@@ -179,7 +206,9 @@ fn with_params(g: Game, wholes: &[u32], threshold: f32) -> Game {
 }
 
 // `teach INIT_K INDEX_SIZE NEIGHBOR_NEIGHBOR_SIZE THRESHOLD`
-fn teach_line(text: &[u8], g: Game, wholes: &mut [u32]) -> Game {
+fn teach_line(text: &[u8], g: Game, wholes: &mut [u32]) -> Game
+    ensures { λ r. ⌜ put r (now (wholes .exit)) ≡ teachLine (now (text .entry)) g (now (wholes .entry)) ⌝ }
+{
     let a = read_wholes(text, g, SIZES, K, wholes);
     if a.fault != FINE {
         return a;
@@ -190,7 +219,9 @@ fn teach_line(text: &[u8], g: Game, wholes: &mut [u32]) -> Game {
 }
 
 // `names K`
-fn names_line(text: &[u8], g: Game, wholes: &mut [u32]) -> Game {
+fn names_line(text: &[u8], g: Game, wholes: &mut [u32]) -> Game
+    ensures { λ r. ⌜ put r (now (wholes .exit)) ≡ namesLine (now (text .entry)) g (now (wholes .entry)) ⌝ }
+{
     let a = read_wholes(text, g, K, PLACES, wholes);
     let mut r = ended(text, a);
     r.k = whole(wholes, K);
@@ -198,7 +229,9 @@ fn names_line(text: &[u8], g: Game, wholes: &mut [u32]) -> Game {
 }
 
 // `roots NODE..`
-fn roots_line(text: &[u8], g: Game, wholes: &mut [u32]) -> Game {
+fn roots_line(text: &[u8], g: Game, wholes: &mut [u32]) -> Game
+    ensures { λ r. ⌜ put r (now (wholes .exit)) ≡ rootsLine (now (text .entry)) g (now (wholes .entry)) ⌝ }
+{
     let count = lines::count_words(text, g.place);
     if count > SIZES {
         return read_to(g, g.place, ROOM);
@@ -209,7 +242,9 @@ fn roots_line(text: &[u8], g: Game, wholes: &mut [u32]) -> Game {
 }
 
 // One counter or query more, where nothing is wrong: counters stand before queries.
-fn with_point(g: Game, kind: u64, place: usize) -> Game {
+fn with_point(g: Game, kind: u64, place: usize) -> Game
+    ensures { λ r. ⌜ r ≡ withPoint g kind place ⌝ }
+{
     if g.fault != FINE {
         return g;
     }
@@ -225,12 +260,16 @@ fn with_point(g: Game, kind: u64, place: usize) -> Game {
     r
 }
 
-fn short(place: usize) -> u32 {
+fn short(place: usize) -> u32
+    ensures { λ r. ⌜ r ≡ place % 65536 ⌝ }
+{
     (place % 65536) as u32
 }
 
 // `counter NAME LANE..` and `query NAME LANE..`: the name's place and the lanes, behind all that are there.
-fn point_line(text: &[u8], g: Game, kind: u64, wholes: &mut [u32], values: &mut [f32]) -> Game {
+fn point_line(text: &[u8], g: Game, kind: u64, wholes: &mut [u32], values: &mut [f32]) -> Game
+    ensures { λ r. ⌜ read r (now (wholes .exit)) (now (values .exit)) ≡ pointLine (now (text .entry)) kind (read g (now (wholes .entry)) (now (values .entry))) ⌝ }
+{
     if g.dimension == 0 {
         return read_to(g, g.place, LANES);
     }
@@ -248,7 +287,9 @@ fn point_line(text: &[u8], g: Game, kind: u64, wholes: &mut [u32], values: &mut 
 }
 
 // A line that says what there is: lanes, sizes, roots, names.
-fn setting(text: &[u8], g: Game, kind: u64, start: usize, wholes: &mut [u32]) -> Game {
+fn setting(text: &[u8], g: Game, kind: u64, start: usize, wholes: &mut [u32]) -> Game
+    ensures { λ r. ⌜ put r (now (wholes .exit)) ≡ setting (now (text .entry)) g kind start (now (wholes .entry)) ⌝ }
+{
     if kind == NAMED_LANES {
         return lanes_line(text, g);
     }
@@ -264,14 +305,18 @@ fn setting(text: &[u8], g: Game, kind: u64, start: usize, wholes: &mut [u32]) ->
     read_to(g, start, UNKNOWN)
 }
 
-fn is_point(kind: u64) -> bool {
+fn is_point(kind: u64) -> bool
+    ensures { λ r. ⌜ r ≡ isPoint kind ⌝ }
+{
     if kind == COUNTER {
         return true;
     }
     kind == QUERY
 }
 
-fn line(text: &[u8], g: Game, wholes: &mut [u32], values: &mut [f32]) -> Game {
+fn line(text: &[u8], g: Game, wholes: &mut [u32], values: &mut [f32]) -> Game
+    ensures { λ r. ⌜ read r (now (wholes .exit)) (now (values .exit)) ≡ lineRead (now (text .entry)) (read g (now (wholes .entry)) (now (values .entry))) ⌝ }
+{
     let w = lines::next_word(text, g.place);
     if w.start == w.end {
         return g;
@@ -284,7 +329,9 @@ fn line(text: &[u8], g: Game, wholes: &mut [u32], values: &mut [f32]) -> Game {
 }
 
 // The game read up to the start of the next line, where nothing is wrong.
-fn next_line(text: &[u8], g: Game) -> Game {
+fn next_line(text: &[u8], g: Game) -> Game
+    ensures { λ r. ⌜ r ≡ nextLine (now (text .entry)) g ⌝ }
+{
     if g.fault != FINE {
         return g;
     }
@@ -295,13 +342,17 @@ fn next_line(text: &[u8], g: Game) -> Game {
     r
 }
 
-fn whole_line(text: &[u8], g: Game, wholes: &mut [u32], values: &mut [f32]) -> Game {
+fn whole_line(text: &[u8], g: Game, wholes: &mut [u32], values: &mut [f32]) -> Game
+    ensures { λ r. ⌜ read r (now (wholes .exit)) (now (values .exit)) ≡ wholeLine (now (text .entry)) (read g (now (wholes .entry)) (now (values .entry))) ⌝ }
+{
     let r = line(text, g, wholes, values);
     next_line(text, r)
 }
 
 /// Reads a whole file, up to the first thing that is wrong. A proved loop has to end: it counts the lines, and stops at more than there are bytes.
-pub fn read(text: &[u8], wholes: &mut [u32], values: &mut [f32]) -> Game {
+pub fn read(text: &[u8], wholes: &mut [u32], values: &mut [f32]) -> Game
+    ensures { λ r. ⌜ read r (now (wholes .exit)) (now (values .exit)) ≡ fileRead (now (text .entry)) (now (wholes .entry)) (now (values .entry)) ⌝ }
+{
     let mut g = nothing();
     let mut turns: u32 = 65536;
     while turns > 0 {

@@ -1,0 +1,2 @@
+-- Laws of steps over a game's file.
+pub mod Laws
