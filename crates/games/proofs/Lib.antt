@@ -1,2 +1,3 @@
--- Laws of steps over a game's file.
+-- Laws of steps over a game's file; small files.
 pub mod Laws
+pub mod Worked

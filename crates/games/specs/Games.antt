@@ -198,6 +198,6 @@ linesRead (suc most) text s =
     cond (leb (length text) (s .game .place)) s
     (cond (eqb (next .game .fault) 0) (linesRead most text next) next)
 
--- A whole file, of fewer bytes than 65,536 lines have at least
+-- A whole file. A line takes a byte at least, and a file has at most 65,535, so the lines suffice.
 abbrev pub fileRead : List ℕ → List ℕ → List Float → Read
 fileRead text wholes values = linesRead 65536 text (read nothing wholes values)
