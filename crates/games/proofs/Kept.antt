@@ -1,6 +1,6 @@
 -- What holds of every game that is read: how many lanes, roots, counters and queries there can be. Assumes nothing.
 use mathlib.Core.Path.{_≡_, refl, _∙_}
-use mathlib.Core.Bool.{Bool, true, false, not, cond, _&&_}
+use mathlib.Core.Bool.{Bool, true, false, not, _&&_}
 use mathlib.Core.List.{List, [], _∷_}
 use Prim.Native.Nat.{ℕ, zero, suc, _+_, _-_, _%_, _^_, _≤_, _<_}
 use native.Mathlib.Nat.{mod-eq-of-lt}
@@ -9,18 +9,11 @@ use lib.Dec.{leb, eqb}
 use lib.ListN.{length, set, length-set}
 use lib.Ieee.{Float, binary32, ofBits}
 use borrow.Author.Tests.{leb-true, leb-false, eqb-true, eqb-false}
+use Rattle.lines.proofs.Choice.{either, both}
 use Rattle.lines.specs.declared.Word.{Word}
 use Rattle.lines.specs.Words.{wordAt, wordsFrom, isNumber, valueOf}
 use Rattle.games.specs.declared.Game.{Game}
 use Rattle.games.specs.Games.{wide, game, readTo, Put, put, nothing, filled, isWhole, digitsOf, ended, lanesLine, withParams, teachLine, namesLine, rootsLine, lanes, teach, names, roots, query, isPoint, setting, withPoint, Read, read, pointLine, lineRead, nextLine, wholeLine, linesRead, fileRead}
-
-module _ {A : Type 0} (P : A → Type 0) where
-  either : (b : Bool) (x y : A) → (b ≡ true → P x) → (b ≡ false → P y) → P (cond b x y)
-  either true x y f g = f refl
-  either false x y f g = g refl
-
-  both : (b : Bool) (x y : A) → P x → P y → P (cond b x y)
-  both b x y p q = either b x y (λ _. p) (λ _. q)
 
 and-true : (x y : Bool) → x && y ≡ true → (x ≡ true) × (y ≡ true)
 and-true true y e = (refl, e)
