@@ -1,6 +1,6 @@
 -- What holds of every game that is read: how many lanes, roots, counters and queries there can be, and that their lanes were read. Assumes nothing.
 use mathlib.Core.Path.{_≡_, refl, sym, subst, _∙_}
-use mathlib.Core.Bool.{Bool, true, false, not, _&&_}
+use mathlib.Core.Bool.{Bool, not, _&&_}
 use mathlib.Core.List.{List, [], _∷_}
 use Prim.Native.Nat.{ℕ, zero, suc, _+_, _-_, _*_, _%_, _≤_, _<_}
 use native.Mathlib.Nat.{mod-eq-of-lt, mul-le-mul, zero-mul, suc-mul}
@@ -11,15 +11,11 @@ use lib.ListN.{length, set, length-set}
 use lib.Ieee.{Float, binary32, ofBits}
 use borrow.Author.Tests.{leb-true, leb-false, eqb-true, eqb-false, le-leb}
 use Rattle.cases.specs.Text.{areaOf}
-use Rattle.lines.proofs.Choice.{either, both}
+use Rattle.lines.proofs.Choice.{either, both, and-true}
 use Rattle.lines.specs.declared.Word.{Word}
 use Rattle.lines.specs.Words.{wordAt, wordsFrom, isNumber, valueOf}
 use Rattle.games.specs.declared.Game.{Game}
 use Rattle.games.specs.Games.{wide, game, readTo, Put, put, nothing, filled, isWhole, digitsOf, ended, lanesLine, withParams, teachLine, namesLine, rootsLine, lanes, teach, names, roots, query, isPoint, setting, withPoint, Read, read, pointLine, lineRead, nextLine, wholeLine, linesRead, fileRead}
-
-and-true : (x y : Bool) → x && y ≡ true → (x ≡ true) × (y ≡ true)
-and-true true y e = (refl, e)
-and-true false y e = (e, cc)
 
 -- the lanes, the counters, the queries and the roots
 abbrev Counts : Type 0
