@@ -45,10 +45,10 @@ call-of-requires : tie.Need-call-of-requires
 call-of-requires c κs = search needs
 
 array-share-prefix-lanes : tie.Need-array-share-prefix-lanes
-array-share-prefix-lanes c = search needs
+array-share-prefix-lanes c = c .before .before .before .before .before .before .before .before .before .before .before .before .before .read-lanes .ensures .0
 
 slice-aggregate-lend : tie.Need-slice-aggregate-lend
-slice-aggregate-lend c = simp length-take (omega arith)
+slice-aggregate-lend c = simp length-take (omega (arith, c .before .before .before .before .before .before .before .before .before .before .before .before .before .before .read-lanes .ensures .0))
 
 array-share-prefix-graph : tie.Need-array-share-prefix-graph
 array-share-prefix-graph c = search needs
