@@ -1,22 +1,25 @@
--- `relay_orders::order::fill_by_rule` is safe and ends: the slice keeps its length. Assumes nothing.
+-- `relay_orders::order::fill_by_rule` meets its contract: the first `i` places are filled. Assumes nothing.
 use Prim.Native.Nat.{_-_}
+use native.Mathlib.Omega.{arith}
 use lib.ListN.{length}
-use mathlib.Core.Path.{_≡_}
+use Rattle.relay_orders.specs.Order.{ruled}
+use Rattle.relay_orders.proofs.Laws.{Filling, filling-none, filling-turn, filling-end, ruled-none, ruled-turn, ruled-end}
 use borrow.Author.Needs.{needs}
 use Rattle.relay_orders.proofs.order.fill_by_rule.Statement.{statement}
 use Rattle.relay_orders.proofs.order.fill_by_rule.Tie as tie
 
 abbrev Inv-loop : tie.InvT-loop
-Inv-loop order₀ kind count i₀ up₀ down₀ order i up down = length order ≡ length order₀
+Inv-loop order₀ kind count i₀ up₀ down₀ order i up down =
+    Filling (ruled kind count (length order₀) up₀ down₀) order₀ order i (ruled kind count (length order₀ - i) up down)
 
 abbrev μ-loop : tie.MeasureT-loop
 μ-loop order₀ kind count i₀ up₀ down₀ order i up down = length order₀ - i
 
-eight-requires : tie.Need-eight-requires Inv-loop μ-loop
-eight-requires c κs = search needs
+mul-down : tie.Need-mul-down Inv-loop μ-loop
+mul-down c = search needs
 
 loop-holds : tie.Need-loop-holds Inv-loop μ-loop
-loop-holds c = search needs
+loop-holds c = filling-none (ruled-none _ _ _ _ _)
 
 wrapping-sub-u32-requires : tie.Need-wrapping-sub-u32-requires Inv-loop μ-loop
 wrapping-sub-u32-requires c κs = search needs
@@ -40,13 +43,21 @@ loop-less : tie.Need-loop-less Inv-loop μ-loop
 loop-less c = search needs
 
 loop-again : tie.Need-loop-again Inv-loop μ-loop
-loop-again c = search needs
+loop-again c =
+    let at = c .before .before .before .before in
+    let long = at .loop .inv .long in
+    filling-turn (at .loop .inv)
+    (ruled-turn _ _ _ _ _ _ (c .wrapping-add-u32 .ensures) (c .before .before .wrapping-sub-u32 .ensures) (search needs) (c .before .job-of .ensures) (omega arith))
+    (omega arith)
 
 same-length : tie.Need-same-length Inv-loop μ-loop
-same-length c = search needs
+same-length c = c .before .loop .inv .long
 
 returns : tie.Need-returns Inv-loop μ-loop
-returns c = search needs
+returns c =
+    let at = c .before in
+    let long = at .loop .inv .long in
+    filling-end (at .loop .inv) (ruled-end _ _ _ _ _ _ (omega arith)) (omega arith)
 
 pub fill-by-rule-spec : {M : Type 1} → statement M
 fill-by-rule-spec =
@@ -54,7 +65,7 @@ fill-by-rule-spec =
     (tie.spec
     Inv-loop
     μ-loop
-    eight-requires
+    mul-down
     loop-holds
     wrapping-sub-u32-requires
     job-of-requires

@@ -1,13 +1,17 @@
--- `relay_orders::order::fill_lanes` is safe and ends: the slice keeps its length. Assumes nothing.
+-- `relay_orders::order::fill_lanes` meets its contract: the first `i` places are filled. Assumes nothing.
+use mathlib.Core.Path.{ap, _∙_}
 use Prim.Native.Nat.{_-_}
+use native.Mathlib.Omega.{arith}
 use lib.ListN.{length}
-use mathlib.Core.Path.{_≡_}
+use Rattle.relay_orders.specs.Order.{drawn, laneFrom}
+use Rattle.relay_orders.proofs.Laws.{Filling, filling-none, filling-turn, filling-end, drawn-none, drawn-turn, drawn-end}
 use borrow.Author.Needs.{needs}
 use Rattle.relay_orders.proofs.order.fill_lanes.Statement.{statement}
 use Rattle.relay_orders.proofs.order.fill_lanes.Tie as tie
 
 abbrev Inv-loop : tie.InvT-loop
-Inv-loop lanes₀ seed i₀ x₀ lanes i x = length lanes ≡ length lanes₀
+Inv-loop lanes₀ seed i₀ x₀ lanes i x =
+    Filling (drawn laneFrom (length lanes₀) x₀) lanes₀ lanes i (drawn laneFrom (length lanes₀ - i) x)
 
 abbrev μ-loop : tie.MeasureT-loop
 μ-loop lanes₀ seed i₀ x₀ lanes i x = length lanes₀ - i
@@ -16,7 +20,7 @@ after-requires : tie.Need-after-requires Inv-loop μ-loop
 after-requires c κs = search needs
 
 loop-holds : tie.Need-loop-holds Inv-loop μ-loop
-loop-holds c = search needs
+loop-holds c = filling-none (drawn-none laneFrom _ _)
 
 after-requires-2 : tie.Need-after-requires-2 Inv-loop μ-loop
 after-requires-2 c κs = search needs
@@ -37,13 +41,21 @@ loop-less : tie.Need-loop-less Inv-loop μ-loop
 loop-less c = search needs
 
 loop-again : tie.Need-loop-again Inv-loop μ-loop
-loop-again c = search needs
+loop-again c =
+    let at = c .before .before .before in
+    let long = at .loop .inv .long in
+    filling-turn (at .loop .inv)
+    (drawn-turn laneFrom _ _ _ (c .before .after2 .ensures) (c .lane-of .ensures) (omega arith))
+    (omega arith)
 
 same-length : tie.Need-same-length Inv-loop μ-loop
 same-length c = search needs
 
 returns : tie.Need-returns Inv-loop μ-loop
-returns c = search needs
+returns c =
+    let at = c .before in
+    let long = at .loop .inv .long in
+    filling-end (at .loop .inv) (drawn-end laneFrom _ _ _ (omega arith)) (omega arith) ∙ ap (drawn laneFrom _) (at .before .after .ensures)
 
 pub fill-lanes-spec : {M : Type 1} → statement M
 fill-lanes-spec =

@@ -1,0 +1,2 @@
+-- Laws of the loops that fill a slice.
+pub mod Laws
