@@ -1,4 +1,8 @@
 // The calls of a list: their numbers, their lanes, and what is changed in their state.
+ghost use mathlib.Core.Path.{_≡_};
+ghost use lib.ListN.{set};
+ghost use Rattle.refusals.specs.Given.{bitsOf};
+ghost use Rattle.refusals_descent.specs.Given.{callOf, callAt, filled, wordsHarmed, floatsHarmed, behindChanges};
 use crate::call::Call;
 use cases::Cursor;
 
@@ -8,7 +12,9 @@ pub struct Read {
     pub cursor: Cursor,
 }
 
-fn call_of(xs: [u32; 12]) -> Call {
+fn call_of(xs: [u32; 12]) -> Call
+    ensures { λ r. ⌜ r ≡ callOf xs ⌝ }
+{
     Call {
         begins: xs[0] == 1,
         shown: xs[1] == 1,
@@ -27,7 +33,9 @@ fn call_of(xs: [u32; 12]) -> Call {
 
 /// Reads the numbers of a call: 1 for a begin and 0 for an iteration, 1 where its state is printed, dimension, n, k, s, and the lengths
 /// of the lanes, the draws, the state's words and floats, and scratch.
-pub fn read_call(text: &[u8], c: Cursor) -> Read {
+pub fn read_call(text: &[u8], c: Cursor) -> Read
+    ensures { λ r. ⌜ r ≡ callAt (now (text .entry)) c ⌝ }
+{
     let mut xs = [0u32; 12];
     let cursor = cases::read_words(text, c, &mut xs);
     Read {
@@ -37,7 +45,9 @@ pub fn read_call(text: &[u8], c: Cursor) -> Read {
 }
 
 // Fills `count` words from `from` on, as far as they go.
-fn fill_words(words: &mut [u32], from: u32, count: u32, word: u32) {
+fn fill_words(words: &mut [u32], from: u32, count: u32, word: u32)
+    ensures { λ _. ⌜ now (words .exit) ≡ filled from count word (now (words .entry)) ⌝ }
+{
     let mut at = from as usize;
     let mut left = count;
     while left > 0 {
@@ -51,7 +61,9 @@ fn fill_words(words: &mut [u32], from: u32, count: u32, word: u32) {
 }
 
 // Writes a float, where there is such a place.
-fn put_float(floats: &mut [f32], at: u32, bits: u32) {
+fn put_float(floats: &mut [f32], at: u32, bits: u32)
+    ensures { λ _. ⌜ now (floats .exit) ≡ set (now (floats .entry)) at (bitsOf bits) ⌝ }
+{
     let place = at as usize;
     if place < floats.len() {
         floats[place] = refusals::float_of(bits);
@@ -59,7 +71,10 @@ fn put_float(floats: &mut [f32], at: u32, bits: u32) {
 }
 
 /// Changes words of a state: how many runs, and of each its first place, its length and its word.
-pub fn harm_words(text: &[u8], c: Cursor, words: &mut [u32]) -> Cursor {
+pub fn harm_words(text: &[u8], c: Cursor, words: &mut [u32]) -> Cursor
+    ensures { λ _. ⌜ now (words .exit) ≡ wordsHarmed (now (text .entry)) c (now (words .entry)) ⌝ }
+    ensures { λ r. ⌜ r ≡ behindChanges (now (text .entry)) 3 c ⌝ }
+{
     let count = cases::read_size(text, c, 8);
     let mut left = count.value;
     let mut cursor = count.cursor;
@@ -75,7 +90,10 @@ pub fn harm_words(text: &[u8], c: Cursor, words: &mut [u32]) -> Cursor {
 }
 
 /// Changes floats of a state: how many, and of each its place and its bits.
-pub fn harm_floats(text: &[u8], c: Cursor, floats: &mut [f32]) -> Cursor {
+pub fn harm_floats(text: &[u8], c: Cursor, floats: &mut [f32]) -> Cursor
+    ensures { λ _. ⌜ now (floats .exit) ≡ floatsHarmed (now (text .entry)) c (now (floats .entry)) ⌝ }
+    ensures { λ r. ⌜ r ≡ behindChanges (now (text .entry)) 2 c ⌝ }
+{
     let count = cases::read_size(text, c, 8);
     let mut left = count.value;
     let mut cursor = count.cursor;

@@ -1,0 +1,2 @@
+-- Laws of the loops that change a state.
+pub mod Laws

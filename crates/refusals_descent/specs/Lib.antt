@@ -1,0 +1,2 @@
+-- `Given`: what the list of calls says.
+pub mod Given
