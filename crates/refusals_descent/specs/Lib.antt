@@ -1,2 +1,3 @@
--- `Given`: what the list of calls says.
+-- `Given`: what the list of calls says. `State`: the state that a call is lent.
 pub mod Given
+pub mod State

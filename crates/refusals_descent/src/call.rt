@@ -1,5 +1,10 @@
 // A call of `begin` or `iterate` on lent places, and its line: what it answered, and what became of the places.
+ghost use mathlib.Core.Path.{_≡_};
 ghost use Prim.Native.Nat.{_≤_};
+ghost use lib.ListN.{length, set, replicate};
+ghost use Rattle.rules.specs.Rows.{emptyDistance};
+ghost use Rattle.refusals_descent.specs.Given.{filled};
+ghost use Rattle.refusals_descent.specs.State.{withContext, formedWords, usualWords, usualFloats, isUsual, wordsGiven, floatsGiven};
 use libc::STDOUT_FILENO;
 use refusals::Left;
 use rules::Answer;
@@ -29,7 +34,9 @@ pub struct Call {
 }
 
 // Fills the first places, as many as there are.
-fn fill_nodes(words: &mut [u32], count: usize, node: u32) {
+fn fill_nodes(words: &mut [u32], count: usize, node: u32)
+    ensures { λ _. ⌜ now (words .exit) ≡ filled 0 count node (now (words .entry)) ⌝ }
+{
     let mut i: usize = 0;
     while i < count {
         if words.len() <= i {
@@ -40,7 +47,9 @@ fn fill_nodes(words: &mut [u32], count: usize, node: u32) {
     }
 }
 
-fn fill_empty(floats: &mut [f32]) {
+fn fill_empty(floats: &mut [f32])
+    ensures { λ _. ⌜ now (floats .exit) ≡ replicate (length (now (floats .entry))) emptyDistance ⌝ }
+{
     let mut i: usize = 0;
     while i < floats.len() {
         floats[i] = EMPTY;
@@ -49,14 +58,19 @@ fn fill_empty(floats: &mut [f32]) {
 }
 
 // Writes a word, where there is such a place.
-fn put_at(words: &mut [u32], at: usize, word: u32) {
+fn put_at(words: &mut [u32], at: usize, word: u32)
+    ensures { λ _. ⌜ now (words .exit) ≡ set (now (words .entry)) at word ⌝ }
+{
     if at < words.len() {
         words[at] = word;
     }
 }
 
 // Writes an entry of a list, where there is such a place.
-fn put_entry(words: &mut [u32], floats: &mut [f32], at: usize, node: u32, distance: f32) {
+fn put_entry(words: &mut [u32], floats: &mut [f32], at: usize, node: u32, distance: f32)
+    ensures { λ _. ⌜ now (words .exit) ≡ set (now (words .entry)) at node ⌝ }
+    ensures { λ _. ⌜ now (floats .exit) ≡ set (now (floats .entry)) at distance ⌝ }
+{
     put_at(words, at, node);
     if at < floats.len() {
         floats[at] = distance;
@@ -66,6 +80,7 @@ fn put_entry(words: &mut [u32], floats: &mut [f32], at: usize, node: u32, distan
 // The context of node 0: a new and a reversed-new member.
 fn put_context(words: &mut [u32], lists: usize, n: usize)
     requires { ⌜ lists ≤ 4294967296 ⌝ }
+    ensures { λ _. ⌜ now (words .exit) ≡ withContext lists n (now (words .entry)) ⌝ }
 {
     put_at(words, lists, 1);
     put_at(words, lists + 1, 1);
@@ -76,13 +91,19 @@ fn put_context(words: &mut [u32], lists: usize, n: usize)
 }
 
 // Lists 0 and 3 of the usual state; the others stay unfilled.
-fn put_lists(words: &mut [u32], floats: &mut [f32]) {
+fn put_lists(words: &mut [u32], floats: &mut [f32])
+    ensures { λ _. ⌜ now (words .exit) ≡ usualWords (now (words .entry)) ⌝ }
+    ensures { λ _. ⌜ now (floats .exit) ≡ usualFloats (now (floats .entry)) ⌝ }
+{
     put_entry(words, floats, 0, 1, 1.0);
     put_entry(words, floats, 1, 2, 9.0);
     put_entry(words, floats, 6, 2, 16.0);
 }
 
-fn write_formed(c: Call, words: &mut [u32], floats: &mut [f32]) {
+fn write_formed(c: Call, words: &mut [u32], floats: &mut [f32])
+    ensures { λ _. ⌜ now (words .exit) ≡ formedWords (c .n) (c .k) (length (now (words .entry))) ⌝ }
+    ensures { λ _. ⌜ now (floats .exit) ≡ replicate (length (now (floats .entry))) emptyDistance ⌝ }
+{
     buffers::zero_words(words);
     fill_empty(floats);
     if c.n > 1024 {
@@ -93,7 +114,9 @@ fn write_formed(c: Call, words: &mut [u32], floats: &mut [f32]) {
     put_context(words, lists, c.n);
 }
 
-fn is_usual(c: Call) -> bool {
+fn is_usual(c: Call) -> bool
+    ensures { λ r. ⌜ r ≡ isUsual c ⌝ }
+{
     if c.n == 4 {
         return c.k == 2;
     }
@@ -102,7 +125,10 @@ fn is_usual(c: Call) -> bool {
 
 /// Writes the state that a call is lent: junk for a begin; for an iteration unfilled lists (the usual ones where it has four nodes and k
 /// 2), and node 0 with new 1 and reversed-new 2, or 0 where there is no node 2.
-pub fn write_state(c: Call, words: &mut [u32], floats: &mut [f32]) {
+pub fn write_state(c: Call, words: &mut [u32], floats: &mut [f32])
+    ensures { λ _. ⌜ now (words .exit) ≡ wordsGiven c (length (now (words .entry))) ⌝ }
+    ensures { λ _. ⌜ now (floats .exit) ≡ floatsGiven c (length (now (floats .entry))) ⌝ }
+{
     if c.begins {
         refusals::fill_words(words, WORDS);
         refusals::fill_floats(floats, FLOATS);
