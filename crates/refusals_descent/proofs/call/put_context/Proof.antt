@@ -31,14 +31,16 @@ same-length c = search needs
 
 returns : tie.Need-returns
 unfolding withContext
-returns c = rw (lt-ltb _ _ (c .before .before .before .before .if1 .taken)) (cc)
+returns c =
+    rw (lt-ltb _ _ (c .before .before .before .before .if1 .taken), c .before .before .put-at4 .ensures, c .before .before .before .before .before .before .before .put-at3 .ensures, c .before .before .before .before .before .before .before .before .before .before .before .put-at2 .ensures, c .before .before .before .before .before .before .before .before .before .before .before .before .before .before .before .put-at .ensures)
 
 same-length-2 : tie.Need-same-length-2
 same-length-2 c = search needs
 
 returns-2 : tie.Need-returns-2
 unfolding withContext
-returns-2 c = rw (le-ltb _ _ (c .if1 .left)) (cc)
+returns-2 c =
+    rw (le-ltb _ _ (c .if1 .left), c .before .before .before .put-at3 .ensures, c .before .before .before .before .before .before .before .put-at2 .ensures, c .before .before .before .before .before .before .before .before .before .before .before .put-at .ensures)
 
 pub put-context-spec : {M : Type 1} → statement M
 put-context-spec =
