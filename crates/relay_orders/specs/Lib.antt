@@ -1,2 +1,3 @@
--- `Order`: seeded numbers, and orders of a relay's moves.
+-- `Order`: seeded numbers, and orders of a relay's moves. `Run`: a whole relay by the rules of its calls.
 pub mod Order
+pub mod Run
