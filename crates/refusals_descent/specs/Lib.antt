@@ -1,3 +1,4 @@
--- `Given`: what the list of calls says. `State`: the state that a call is lent.
+-- `Given`: what the list of calls says. `State`: the state that a call is lent. `Outcome`: what a call says and leaves.
 pub mod Given
 pub mod State
+pub mod Outcome

@@ -3,8 +3,13 @@ ghost use mathlib.Core.Path.{_≡_};
 ghost use Prim.Native.Nat.{_≤_};
 ghost use lib.ListN.{length, set, replicate};
 ghost use Rattle.rules.specs.Rows.{emptyDistance};
+ghost use Rattle.rules.specs.Refusals.{saidOf};
+ghost use Rattle.rules.specs.DescentCall.{iterateSaid};
+ghost use Rattle.descent.specs.Descent as descents;
+ghost use Rattle.iterate.specs.Iterate.{iterateLeft};
 ghost use Rattle.refusals_descent.specs.Given.{filled};
 ghost use Rattle.refusals_descent.specs.State.{withContext, formedWords, usualWords, usualFloats, isUsual, wordsGiven, floatsGiven};
+ghost use Rattle.refusals_descent.specs.Outcome.{uncounted, outcomeOf, leftOf};
 use libc::STDOUT_FILENO;
 use refusals::Left;
 use rules::Answer;
@@ -209,7 +214,16 @@ fn put_number(c: Call, number: u32) {
     refusals::put_word(b"iterate ", number);
 }
 
-// The call. A begin answers no counts.
+// The answer of a begin, which has no counts.
+fn uncounted(begun: Answer) -> IterateAnswer
+    ensures { λ r. ⌜ iterateSaid r ≡ uncounted (saidOf begun) ⌝ }
+{
+    match begun {
+        Answer::Done => IterateAnswer::Iterated { cost: 0, new: 0 },
+        Answer::Refused(r) => IterateAnswer::Refused(r),
+    }
+}
+
 fn asked(
     c: Call,
     lanes: &[f32],
@@ -218,7 +232,9 @@ fn asked(
     state_f: &mut [f32],
     words: &mut [u32],
     floats: &mut [f32],
-) -> IterateAnswer {
+) -> IterateAnswer
+    ensures { λ r. ⌜ iterateLeft r (now («state_u» .exit)) (now («state_f» .exit)) (now (words .exit)) (now (floats .exit)) ≡ outcomeOf c (now (lanes .entry)) (now (draws .entry)) (now («state_u» .entry)) (now («state_f» .entry)) (now (words .entry)) (now (floats .entry)) ⌝ }
+{
     if c.begins {
         let begun = descent::begin(
             c.dimension,
@@ -232,10 +248,7 @@ fn asked(
             words,
             floats,
         );
-        return match begun {
-            Answer::Done => IterateAnswer::Iterated { cost: 0, new: 0 },
-            Answer::Refused(r) => IterateAnswer::Refused(r),
-        };
+        return uncounted(begun);
     }
     iterate::iterate(
         c.dimension,
@@ -263,7 +276,9 @@ pub fn called(
     state_f: &mut [f32],
     words: &mut [u32],
     floats: &mut [f32],
-) {
+)
+    ensures { λ _. ⌜ descents.left (now («state_u» .exit)) (now («state_f» .exit)) (now (words .exit)) (now (floats .exit)) ≡ leftOf c (now (lanes .entry)) (now (draws .entry)) (now («state_u» .entry)) (now («state_f» .entry)) (length (now (words .entry))) (length (now (floats .entry))) ⌝ }
+{
     refusals::fill_scratch(words, floats);
     let answer = asked(c, lanes, draws, state_u, state_f, words, floats);
     put_number(c, number);
