@@ -2,7 +2,6 @@
 use mathlib.Core.Bool.{cond}
 use mathlib.Core.List.{List}
 use Prim.Native.Nat.{ℕ}
-use lib.ListN.{length}
 use lib.Ieee.{Float}
 use Rattle.rules.specs.Refusals.{Code}
 use Rattle.rules.specs.DescentCall.{DescentLent, DescentLeft, BeginOutcome, IterateSaid, IterateOutcome, beginRule, iterateRule}

@@ -1,5 +1,4 @@
 -- `relay_orders::order::small` meets its contract. Assumes nothing.
-use native.Mathlib.Omega.{arith}
 use borrow.Author.Tests.{le-leb, lt-leb}
 use borrow.Author.Needs.{needs}
 use Rattle.relay_orders.specs.Order.{small}
