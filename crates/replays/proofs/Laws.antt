@@ -44,10 +44,19 @@ module _ (text : List ℕ) (passed : ℕ) (c : Cursor) (w : Word) (e : w ≡ wor
       case-other h =
           rw (← e, eq-eqb (w .cursor .fault) 0 fine, ne-eqb (w .value) 0 more, ← n, ne-eqb (w .value) next h)
 
-      pub case-kind : w .value ≡ next → (s : Size) → s ≡ sizeAt 6 text (w .cursor) → ofKind s ≡ caseAt text passed c
-      unfolding caseAt caseFrom
-      case-kind h s size =
-          rw (← e, eq-eqb (w .cursor .fault) 0 fine, ne-eqb (w .value) 0 more, ← n, eq-eqb (w .value) next h, ← size)
+      module _ (h : w .value ≡ next) (s : Size) (size : s ≡ sizeAt 6 text (w .cursor)) where
+        kind-is : ofKind s ≡ caseAt text passed c
+        unfolding caseAt caseFrom
+        kind-is =
+            rw (← e, eq-eqb (w .cursor .fault) 0 fine, ne-eqb (w .value) 0 more, ← n, eq-eqb (w .value) next h, ← size)
+
+        pub case-none : s .value ≡ 0 → unexpected (s .cursor) ≡ caseAt text passed c
+        unfolding ofKind
+        case-none z = rw (← kind-is, eq-eqb (s .value) 0 z)
+
+        pub case-kind : (s .value ≡ 0 → ⊥) → record { kind = s .value; cursor = s .cursor } ≡ caseAt text passed c
+        unfolding ofKind
+        case-kind z = rw (← kind-is, ne-eqb (s .value) 0 z)
 
 module _ (ours : List ℕ) (i : ℕ) (text : List ℕ) (c : Cursor) where
   pub apart-end : length ours ≤ i → i + apart (drop i ours) (wordsAt (length ours - i) text c) ≡ i

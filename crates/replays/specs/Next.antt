@@ -28,10 +28,11 @@ endAt text passed c =
     let total = wordAt text c in
     cond (eqb (total .value) passed) (closed (total .cursor) (tokenAt text (total .cursor))) (unexpected (total .cursor))
 
+-- "its kind (1 to 6)"
 unfoldable pub ofKind : Size → Case
-ofKind s = record { kind = s .value; cursor = s .cursor }
+ofKind s = cond (eqb (s .value) 0) (unexpected (s .cursor)) (record { kind = s .value; cursor = s .cursor })
 
--- "A case is: its number (1, 2, 3, ..), its kind (1 to 6), .."; a kind of 0, or a larger one, is none
+-- "A case is: its number (1, 2, 3, ..), its kind .."
 unfoldable pub caseFrom : List ℕ → ℕ → Word → Case
 caseFrom text passed number =
     cond (eqb (number .cursor .fault) 0)

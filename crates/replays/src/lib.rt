@@ -68,6 +68,9 @@ pub fn next_case(text: &[u8], c: Cursor, passed: u32) -> Case
     }
     let kind = cases::read_size(text, behind, 6);
     let after = kind.cursor;
+    if kind.value == 0 {
+        return unexpected(after);
+    }
     Case {
         kind: kind.value as u32,
         cursor: after,
