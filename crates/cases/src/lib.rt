@@ -1,6 +1,6 @@
 // The reader of the oracle's lists: text as a sequence of numbers, by the format of oracle/README.md.
 ghost use mathlib.Core.Path.{_≡_};
-ghost use Prim.Native.Nat.{_≤_};
+ghost use Prim.Native.Nat.{_≤_, min};
 ghost use lib.ListN.{length, drop};
 ghost use Rattle.cases.specs.Text.{within, separates, after, skipped, digitOf, digitsOf, tokenAt, faulted, wordAt, sizeAt, areaOf, wordsAt, floatOf, floatsAt, behind, first};
 
@@ -300,7 +300,7 @@ pub fn area(a: usize, b: usize) -> usize
 
 /// The less of two lengths, for a part of a slice.
 pub fn least(a: usize, b: usize) -> usize
-    ensures { λ r. ⌜ r ≤ b ⌝ }
+    ensures { λ r. ⌜ r ≡ min a b ⌝ }
 {
     if a < b { a } else { b }
 }
