@@ -1,7 +1,7 @@
 -- The calls of a whole relay, from what each call's contract says. Assumes nothing.
 use mathlib.Core.Path.{_≡_, refl, sym, ap, _∙_}
 use mathlib.Core.List.{List}
-use Prim.Native.Nat.{ℕ, suc, _+_, _≤_, _<_}
+use Prim.Native.Nat.{ℕ, suc, _+_, _≤_, _<_, min}
 use native.Mathlib.Numerals.{add-one}
 use lib.ListN.{length, take, drop, getD, replicate, drop-of-length-le}
 use lib.Seq.{drop-cons}
@@ -11,13 +11,14 @@ use Rattle.rules.specs.declared.Refusal.the-variants.{Dimension, Nodes, Lanes, 
 use Rattle.rules.specs.declared.Answer.{Answer}
 use Rattle.rules.specs.declared.Answer.the-variants.{Done, Refused}
 use Rattle.rules.specs.Refusals.{codeOf, saidOf}
+use Rattle.relays.specs.Places.{wordsLong, floatsLong}
 use Rattle.relay_opening.specs.Opening.{Opened}
 use Rattle.relay_move.specs.Move.{Moved}
 use Rattle.relay_close.specs.Close.{Closed}
 use Rattle.relay_opening.specs.Opening as opening
 use Rattle.relay_move.specs.Move as moving
 use Rattle.relay_close.specs.Close as closing
-use Rattle.relay_orders.specs.Run.{junkWord, junkFloat, refusedIn, sum, Ran, ran, relayed, ofOpen, ofMove, ofClose, openedOf, step, movedBy, closedFrom, relayedIn, lent, wholeOf}
+use Rattle.relay_orders.specs.Run.{junkWord, junkFloat, refusedIn, sum, Ran, ran, relayed, ofOpen, ofMove, ofClose, openedOf, step, movedBy, closedFrom, relayedIn, wholeOf}
 
 -- every refusal has a number
 refused-one : (r : Refusal) → refusedIn (codeOf r) ≡ 1
@@ -95,7 +96,7 @@ module _ (n k : ℕ) (lanes : List Float) (jobs : List ℕ) (nodes : List ℕ) (
         ∙ ap (λ (o : Ran). closedFrom n k (o .refused) (movedBy n k order (ran (o .words) (o .floats) 0)) nodes distances reports) e
 
   pub whole-made :
-      (order reports : List ℕ) (a b : ℕ) → a ≡ lent n k 65 1024 2048 → b ≡ lent n k 64 64 1024
+      (order reports : List ℕ) (a b : ℕ) → a ≡ min (wordsLong n k) 2048 → b ≡ min (floatsLong n k) 1024
       → relayedIn n k (take a (replicate 2048 junkWord)) (take b (replicate 1024 junkFloat)) lanes jobs order nodes distances reports
       ≡ wholeOf n k lanes jobs order nodes distances reports
   unfolding wholeOf
@@ -103,4 +104,4 @@ module _ (n k : ℕ) (lanes : List Float) (jobs : List ℕ) (nodes : List ℕ) (
       let words : ℕ → List ℕ = λ (x : ℕ). take x (replicate 2048 junkWord) in
       let floats : ℕ → List Float = λ (x : ℕ). take x (replicate 1024 junkFloat) in
       ap (λ (x : ℕ). relayedIn n k (words x) (floats b) lanes jobs order nodes distances reports) e
-      ∙ ap (λ (x : ℕ). relayedIn n k (words (lent n k 65 1024 2048)) (floats x) lanes jobs order nodes distances reports) f
+      ∙ ap (λ (x : ℕ). relayedIn n k (words (min (wordsLong n k) 2048)) (floats x) lanes jobs order nodes distances reports) f

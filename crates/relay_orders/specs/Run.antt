@@ -1,13 +1,13 @@
 -- A whole relay by the rules of its calls: opened, moved in an order and closed. Assumes nothing.
 use mathlib.Core.Bool.{cond}
 use mathlib.Core.List.{List, [], _∷_}
-use Prim.Native.Nat.{ℕ, _+_, _%_, _^_}
-use lib.Dec.{leb, eqb}
+use Prim.Native.Nat.{ℕ, _+_, _%_, _^_, min}
+use lib.Dec.{eqb}
 use lib.ListN.{take, replicate}
 use lib.Ieee.{Float, binary32, ofBits}
 use Rattle.rules.specs.Refusals.{Code}
 use Rattle.rules.specs.RelayCall.{OpenOutcome, MoveOutcome, CloseOutcome, openRule, moveRule, closeRule}
-use Rattle.cases.specs.Text.{areaOf}
+use Rattle.relays.specs.Places.{wordsLong, floatsLong}
 use Rattle.relay_opening.specs.Opening as opening
 use Rattle.relay_move.specs.Move as moving
 use Rattle.relay_close.specs.Close as closing
@@ -81,12 +81,7 @@ module _ (n k : ℕ) where
       let o = openedOf lanes nodes distances jobs words floats in
       closedFrom (o .refused) (movedBy order (ran (o .words) (o .floats) 0)) nodes distances reports
 
-  -- How many places of a state are lent: no more than there are
-  unfoldable pub lent : ℕ → ℕ → ℕ → ℕ
-  lent row more most =
-      let long = areaOf n (k + row) + more in
-      cond (leb k 64) (cond (leb long most) long most) 0
-
+  -- As many places of a state as it has, of those there are
   unfoldable pub wholeOf : List Float → List ℕ → List ℕ → List ℕ → List Float → List ℕ → Relayed
   wholeOf =
-      relayedIn (take (lent 65 1024 2048) (replicate 2048 junkWord)) (take (lent 64 64 1024) (replicate 1024 junkFloat))
+      relayedIn (take (min (wordsLong n k) 2048) (replicate 2048 junkWord)) (take (min (floatsLong n k) 1024) (replicate 1024 junkFloat))

@@ -1,8 +1,7 @@
 // A whole relay: opened, moved in an order and closed into the lists that were lent to it; counts the calls that are refused.
 ghost use mathlib.Core.Path.{_≡_};
-ghost use Prim.Native.Nat.{_≤_};
 ghost use Rattle.rules.specs.Refusals.{saidOf};
-ghost use Rattle.relay_orders.specs.Run.{refusedIn, ran, relayed, openedOf, movedBy, relayedIn, lent, wholeOf};
+ghost use Rattle.relay_orders.specs.Run.{refusedIn, ran, relayed, openedOf, movedBy, relayedIn, wholeOf};
 use rules::Answer;
 
 // What lent places hold before a call.
@@ -47,20 +46,13 @@ fn opened(
     refused(answer)
 }
 
-// A word as a job's number.
-fn job_in(word: u32) -> usize
-    ensures { λ r. ⌜ r ≡ word ⌝ }
-{
-    word as usize
-}
-
 fn moved(n: usize, k: usize, order: &[u32], words: &mut [u32], floats: &mut [f32]) -> u32
     ensures { λ r. ⌜ ran (now (words .exit)) (now (floats .exit)) r ≡ movedBy n k (now (order .entry)) (ran (now (words .entry)) (now (floats .entry)) 0) ⌝ }
 {
     let mut i: usize = 0;
     let mut count: u32 = 0;
     while i < order.len() {
-        let answer = relay_move::move_job(n, k, job_in(order[i]), words, floats);
+        let answer = relay_move::move_job(n, k, relays::index(order[i]), words, floats);
         count = std::num::wrapping_add_u32(count, refused(answer));
         i += 1;
     }
@@ -87,22 +79,6 @@ fn in_state(
     std::num::wrapping_add_u32(a, std::num::wrapping_add_u32(b, c))
 }
 
-// How many places of a state are lent, of `most` that there are: `row` more than k for each node, and `more` behind.
-fn lent(n: usize, k: usize, row: usize, more: usize, most: usize) -> usize
-    requires { ⌜ (row ≤ 65) × (more ≤ 1024) ⌝ }
-    ensures { λ r. ⌜ r ≡ lent n k row more most ⌝ }
-    ensures { λ r. ⌜ r ≤ most ⌝ }
-{
-    if k > 64 {
-        return 0;
-    }
-    let long = cases::area(n, k + row) + more;
-    if long <= most {
-        return long;
-    }
-    most
-}
-
 /// Opens a relay of lanes of one dimension, moves it in the order given and closes it. Returns how many calls were refused.
 pub fn whole(
     n: usize,
@@ -118,8 +94,8 @@ pub fn whole(
 {
     let mut words = [JUNK; 2048];
     let mut floats = [1.5f32; 1024];
-    let words_long = lent(n, k, 65, 1024, 2048);
-    let floats_long = lent(n, k, 64, 64, 1024);
+    let words_long = cases::least(relays::words_long(n, k), 2048);
+    let floats_long = cases::least(relays::floats_long(n, k), 1024);
     in_state(
         n,
         k,

@@ -19,14 +19,14 @@ abbrev μ-loop : tie.MeasureT-loop
 loop-holds : tie.Need-loop-holds Inv-loop μ-loop
 loop-holds c = (refl, refl, refl)
 
-mul-job-in : tie.Need-mul-job-in Inv-loop μ-loop
-mul-job-in c = search needs
+mul-index : tie.Need-mul-index Inv-loop μ-loop
+mul-index c = search needs
 
-shared-slice-read-job-in : tie.Need-shared-slice-read-job-in Inv-loop μ-loop
-shared-slice-read-job-in c = search needs
+shared-slice-read-index : tie.Need-shared-slice-read-index Inv-loop μ-loop
+shared-slice-read-index c = search needs
 
-job-in-requires : tie.Need-job-in-requires Inv-loop μ-loop
-job-in-requires c κs = search needs
+index-requires : tie.Need-index-requires Inv-loop μ-loop
+index-requires c κs = search needs
 
 move-job-requires : tie.Need-move-job-requires Inv-loop μ-loop
 move-job-requires c κs = search needs
@@ -48,7 +48,7 @@ loop-again c =
     let at = c .before .before .before .before .before .before .before .before .before .before .before .before in
     let turn =
     moved-turn _ _ (at .loop .words) (at .loop .floats) (at .loop .count) (at .before .before .before .before .args .order .now) (at .loop .i) _ _ (search needs)
-    (c .before .before .before .before .before .before .before .before .before .job-in .ensures) (step-made _ _ _ _ _ _ _ _ _ _ _ (c .before .before .before .before .before .before .move-job .ensures) (c .before .refused .ensures) (c .wrapping-add-u32 .ensures)) in
+    (c .before .before .before .before .before .before .before .before .before .index .ensures) (step-made _ _ _ _ _ _ _ _ _ _ _ (c .before .before .before .before .before .before .move-job .ensures) (c .before .refused .ensures) (c .wrapping-add-u32 .ensures)) in
     (search needs, search needs, turn ∙ at .loop .inv .2)
 
 same-length : tie.Need-same-length Inv-loop μ-loop
@@ -70,9 +70,9 @@ moved-spec =
     Inv-loop
     μ-loop
     loop-holds
-    mul-job-in
-    shared-slice-read-job-in
-    job-in-requires
+    mul-index
+    shared-slice-read-index
+    index-requires
     move-job-requires
     refused-requires
     wrapping-add-u32-requires
