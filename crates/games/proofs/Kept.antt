@@ -10,8 +10,9 @@ use lib.Dec.{leb, eqb}
 use lib.ListN.{length, set, length-set}
 use lib.Ieee.{Float, binary32, ofBits}
 use borrow.Author.Tests.{leb-true, leb-false, eqb-true, eqb-false, le-leb}
+use Rattle.rules.proofs.Tests as tests
 use Rattle.cases.specs.Text.{areaOf}
-use Rattle.lines.proofs.Choice.{either, both, and-true}
+use Rattle.lines.proofs.Choice.{either, both}
 use Rattle.lines.specs.declared.Word.{Word}
 use Rattle.lines.specs.Words.{wordAt, wordsFrom, isNumber, valueOf}
 use Rattle.games.specs.declared.Game.{Game}
@@ -92,10 +93,10 @@ module _ (room long : ℕ) (small : room ≤ 65604) (text : List ℕ) where
       let count = wordsFrom 1024 text (g .place) in
       either Bounded (eqb (g .dimension) 0 && (leb 1 count && leb count 16)) _ _
       (λ t.
-      let u = and-true (eqb (g .dimension) 0) (leb 1 count && leb count 16) t in
+      let u = tests.both (eqb (g .dimension) 0) (leb 1 count && leb count 16) t in
       let none : g .n + g .asked ≡ 0 = b .named (eqb-true (g .dimension) 0 (u .0)) in
       record {
-        lanes = leb-true count 16 (and-true (leb 1 count) (leb count 16) (u .1) .1);
+        lanes = leb-true count 16 (tests.both (leb 1 count) (leb count 16) (u .1) .1);
         named = λ _. none;
         roots = b .roots;
         places = b .places;

@@ -1,6 +1,6 @@
 -- What holds of both of two choices holds of the one that is made. Assumes nothing.
 use mathlib.Core.Path.{_≡_, refl}
-use mathlib.Core.Bool.{Bool, true, false, cond, _&&_}
+use mathlib.Core.Bool.{Bool, true, false, cond}
 
 module _ {A : Type 0} (P : A → Type 0) where
   pub either : (b : Bool) (x y : A) → (b ≡ true → P x) → (b ≡ false → P y) → P (cond b x y)
@@ -9,7 +9,3 @@ module _ {A : Type 0} (P : A → Type 0) where
 
   pub both : (b : Bool) (x y : A) → P x → P y → P (cond b x y)
   both b x y p q = either b x y (λ _. p) (λ _. q)
-
-pub and-true : (x y : Bool) → x && y ≡ true → (x ≡ true) × (y ≡ true)
-and-true true y e = (refl, e)
-and-true false y e = (e, cc)

@@ -13,7 +13,8 @@ use lib.Ieee.Exact.{HasValue}
 use lib.Ieee.Fits.{up-pos, down-pos}
 use lib.Ieee.Scale.{round-same}
 use borrow.Author.Tests.{leb-true, ne-eqb}
-use Rattle.lines.proofs.Choice.{either, both, and-true}
+use Rattle.rules.proofs.Tests as tests
+use Rattle.lines.proofs.Choice.{either, both}
 use Rattle.lines.specs.declared.Word.{Word}
 use Rattle.lines.specs.Words.{stops, endFrom, isDigit, mostDigits, digitsWith, emptyAt, withByte, wordOf, wordAt, isNan, scaleOf, valueOf}
 
@@ -51,9 +52,9 @@ unfolding digitsWith isDigit
 digits-small digits b h =
     either (λ (k : ℕ). k ≤ 16000009) (leb digits mostDigits && (leb 48 b && leb b 57)) (digits * 10 + (b - 48)) digits
     (λ t.
-    let u = and-true (leb digits mostDigits) (leb 48 b && leb b 57) t in
+    let u = tests.both (leb digits mostDigits) (leb 48 b && leb b 57) t in
     let few = leb-true digits mostDigits (u .0) in
-    let low = leb-true b 57 (and-true (leb 48 b) (leb b 57) (u .1) .1) in
+    let low = leb-true b 57 (tests.both (leb 48 b) (leb b 57) (u .1) .1) in
     omega (arith, few, low))
     (λ _. h)
 
