@@ -85,16 +85,16 @@ def statements(text, start, end):
             yield start + m.start(), start + m.end(), len(m.group(1)), m.group(0)
 
 
-def code_moves(text, start, end):
-    """A statement left out, two statements the other way round, a row whose test never holds, an index fixed, two arguments swapped."""
+def code_moves(whole, text, start, end):
+    """A statement left out, two statements the other way round, a row whose test never holds, an index fixed, two arguments swapped; `whole` is the text as it stands."""
     seen = list(statements(text, start, end))
     for s, e, _, _ in seen:
         yield s, e, "", "left out"
     for (s, e, i, a), (t, f, j, b) in zip(seen, seen[1:]):
         if e == t and i == j and a != b:
-            yield s, f, b + a, "order"
+            yield s, f, whole[t:f] + whole[s:e], "order"
     for m in re.finditer(r"^( +)if ([^\n]*) \{\n +return [^\n]*;\n\1\}\n", text[start:end], re.M):
-        yield start + m.start(2), start + m.end(2), "(" + m.group(2) + ") & false", "row left out"
+        yield start + m.start(2), start + m.end(2), "(" + whole[start + m.start(2):start + m.end(2)] + ") & false", "row left out"
     for m in re.finditer(r"\[([^\[\]]+)\]", text[start:end]):
         if re.fullmatch(r"[a-z]\w*( [+*-] .+)?", m.group(1)) and ".." not in m.group(1):
             yield start + m.start(1), start + m.end(1), "0", "index"
@@ -125,7 +125,7 @@ def of_code(file, text):
     for name, signature, start, end in bodies(plain):
         typed = dict(re.findall(r"(\w+): ([^,=;]+?)(?=[,\s]*(?:$|,|\n))", signature, re.M))
         typed.update(re.findall(r"let (?:mut )?(\w+): ([^=;]+?) =", plain[start:end]))
-        yield from changed(file, name, plain, (start, end), typed, words, code_moves)
+        yield from changed(file, name, plain, (start, end), typed, words, lambda *at: code_moves(text, *at))
     for m in re.finditer(r"^(?:pub )?const (\w+): [^=]+ = ([^;]+);", plain, re.M):
         yield from (Edit(file, start, end, new, "constant", m.group(1)) for start, end, new, _ in numbers(plain, *m.span(2)))
 
