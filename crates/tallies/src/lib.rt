@@ -1,5 +1,6 @@
 // What the replays count and say: how a case came out, and how many did.
 ghost use mathlib.Core.Path.{_≡_};
+ghost use Rattle.io.specs.Counts.{Counts};
 ghost use Rattle.tallies.specs.Tallies.{noCase, joined, scratched, counted, closed};
 use cases::Cursor;
 use libc::STDOUT_FILENO;
@@ -123,6 +124,22 @@ pub fn ended(t: Tally, kind: u32, c: Cursor) -> Tally
         differ: t.differ,
         cursor: cursor,
     }
+}
+
+/// Reads the list that an argument names to the front of the room, and answers its length: 0 where there is none, which is said.
+pub fn read_named(i: usize, room: &mut [u8]) -> usize
+    ensures { λ r. ⌜ Counts r (now (room .exit)) ⌝ }
+{
+    let mut path = io::buffer();
+    let n = os::arg(i, &mut path);
+    let fd = os::open_read(&path[..n]);
+    if fd < 0 {
+        os::fail(&path[..n]);
+        return 0;
+    }
+    let long = io::read_full(fd, room);
+    libc::close(fd);
+    long
 }
 
 /// Prints the tally: what was compared, how many differ, and the numbers read with their sum.
