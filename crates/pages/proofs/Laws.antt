@@ -1,0 +1,103 @@
+-- A page stays as long as it is, and a text behind a text is the two as one. Assumes nothing.
+use mathlib.Core.Path.{_≡_, refl, sym, ap, subst, _∙_}
+use mathlib.Core.Bool.{Bool, true, false, not}
+use mathlib.Core.List.{List, [], _∷_, _++_}
+use Prim.Native.Nat.{ℕ, zero, suc, _+_, _≤_, _<_, min}
+use native.Mathlib.Omega.{arith}
+use native.Mathlib.Numerals.{add-one}
+use lib.Dec.{T, ltb, ltb→lt, nltb→le}
+use lib.ListN.{length, drop, getD, set, length-set, length-append, drop-of-length-le}
+use lib.Seq.{drop-cons}
+use Rattle.pages.specs.Page.{over, Puts}
+
+pub over-length : (at : ℕ) (text page : List ℕ) → length (over at text page) ≡ length page
+unfolding over
+over-length at text [] = refl
+over-length zero [] (x ∷ xs) = refl
+over-length zero (b ∷ bs) (x ∷ xs) = ap suc (over-length zero bs xs)
+over-length (suc at) text (x ∷ xs) = ap suc (over-length at text xs)
+
+pub over-none : (at : ℕ) (page : List ℕ) → over at [] page ≡ page
+unfolding over
+over-none at [] = refl
+over-none zero (x ∷ xs) = refl
+over-none (suc at) (x ∷ xs) = ap (λ (l : List ℕ). x ∷ l) (over-none at xs)
+
+pub over-full : (at : ℕ) (text page : List ℕ) → length page ≤ at → over at text page ≡ page
+unfolding over
+over-full at text [] h = refl
+over-full zero text (x ∷ xs) h = absurd (omega (arith, h))
+over-full (suc at) text (x ∷ xs) h = ap (λ (l : List ℕ). x ∷ l) (over-full at text xs (omega (arith, h)))
+
+pub over-one : (at b : ℕ) (bs page : List ℕ) → over (suc at) bs (set page at b) ≡ over at (b ∷ bs) page
+unfolding over
+over-one at b bs [] = refl
+over-one zero b bs (x ∷ xs) = refl
+over-one (suc at) b bs (x ∷ xs) = ap (λ (l : List ℕ). x ∷ l) (over-one at b bs xs)
+
+over-append : (at : ℕ) (a b page : List ℕ) → over (at + length a) b (over at a page) ≡ over at (a ++ b) page
+over-append at [] b page = rw (over-none at page) (ap (λ (n : ℕ). over n b page) (omega arith))
+over-append at (x ∷ a) b page =
+    ap (λ (n : ℕ). over n b (over at (x ∷ a) page)) (omega arith) ∙ ap (over (suc at + length a) b) (sym (over-one at x a page))
+    ∙ over-append (suc at) a b (set page at x) ∙ over-one at x (a ++ b) page
+
+module _ (text page : List ℕ) where
+  -- a place behind the page is as its end
+  over-clipped : (at : ℕ) → over (min at (length page)) text page ≡ over at text page
+  over-clipped at = go (ltb at (length page)) (ltb→lt at (length page)) (nltb→le at (length page))
+    where
+      go : (b : Bool) → (T b → at < length page) → (T (not b) → length page ≤ at) → over (min at (length page)) text page ≡ over at text page
+      go true lt le = let h = lt tt in ap (λ (n : ℕ). over n text page) (omega (arith, h))
+      go false lt le = let h = le tt in over-full (min at (length page)) text page (omega (arith, h)) ∙ sym (over-full at text page h)
+
+-- an equal text
+pub puts-text : {at r : ℕ} {a b page left : List ℕ} → a ≡ b → Puts at a page r left → Puts at b page r left
+puts-text {at} {r} {a} {b} {page} {left} e = subst (λ (t : List ℕ). Puts at t page r left) e
+
+-- a text put behind a text
+pub puts-both : {at q r : ℕ} {a b page left last : List ℕ} → Puts at a page q left → Puts q b left r last → Puts at (a ++ b) page r last
+puts-both {at} {q} {r} {a} {b} {page} {left} {last} x y =
+    let long = ap length (x .written) ∙ over-length at a page in
+    let both = length-append a b in
+    let q≡ = x .place in
+    let r≡ = y .place in
+    record {
+      place = omega arith;
+      written =
+          y .written ∙ ap (λ (l : List ℕ). over q b l) (x .written) ∙ ap (λ (n : ℕ). over n b (over at a page)) (x .place ∙ ap (min (at + length a)) (sym (over-length at a page)))
+          ∙ over-clipped b (over at a page) (at + length a) ∙ over-append at a b page;
+    }
+
+-- in the loop of `put`: what is left of the text, over the page as it is, is the whole over the page as it was
+pub record Putting (at : ℕ) (text page₀ page : List ℕ) (i place : ℕ) : Type 0 where
+  pub rest : over place (drop i text) page ≡ over at text page₀
+  pub here : place ≡ at + i
+  pub within : i ≤ length text
+  pub long : length page ≡ length page₀
+
+module _ {at : ℕ} {text page₀ page : List ℕ} {i place : ℕ} (inv : Putting at text page₀ page i place) where
+  pub putting-turn : i < length text → Putting at text page₀ (set page place (getD text i 0)) (i + 1) (place + 1)
+  putting-turn h =
+      let here = inv .here in
+      record {
+        rest = rw (add-one i, add-one place) (over-one place (getD text i 0) (drop (suc i) text) page ∙ ap (λ (l : List ℕ). over place l page) (sym (drop-cons text i 0 h)) ∙ inv .rest);
+        here = omega arith;
+        within = omega arith;
+        long = length-set page place (getD text i 0) ∙ inv .long;
+      }
+
+  -- the page is full
+  pub putting-full : length page ≤ place → Puts at text page₀ (length page) page
+  putting-full h =
+      let here = inv .here in
+      let within = inv .within in
+      let long = inv .long in
+      record { place = omega arith; written = sym (over-full place (drop i text) page h) ∙ inv .rest }
+
+  -- the text is at its end
+  pub putting-end : length text ≤ i → {r : ℕ} → r ≡ min place (length page) → Puts at text page₀ r page
+  putting-end h {r} e =
+      let here = inv .here in
+      let within = inv .within in
+      let long = inv .long in
+      record { place = omega arith; written = sym (over-none place page) ∙ ap (λ (l : List ℕ). over place l page) (sym (drop-of-length-le text h)) ∙ inv .rest }
