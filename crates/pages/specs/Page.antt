@@ -22,6 +22,10 @@ decimalIn (suc most) n = cond (ltb n 10) ((48 + n) ∷ []) (decimalIn most (n / 
 abbrev pub decimal : ℕ → List ℕ
 decimal n = decimalIn 20 n
 
+-- A number behind a text
+abbrev pub labelled : List ℕ → ℕ → List ℕ
+labelled label n = label ++ decimal n
+
 -- A page with a text over what it holds from a place on, as far as it has room
 unfoldable pub over : ℕ → List ℕ → List ℕ → List ℕ
 over at text [] = []

@@ -1,6 +1,7 @@
 // A lent page that a program fills before it prints it: what it says can then be stated.
-ghost use mathlib.Core.List.{_++_};
-ghost use Rattle.pages.specs.Page.{decimal, Puts};
+ghost use mathlib.Core.Path.{_≡_};
+ghost use lib.ListN.{take};
+ghost use Rattle.pages.specs.Page.{labelled, Puts};
 
 /// Puts bytes on the page from a place on, and answers the place behind them. What the page has no room for is left away.
 pub fn put(page: &mut [u8], at: usize, bytes: &[u8]) -> usize
@@ -21,10 +22,25 @@ pub fn put(page: &mut [u8], at: usize, bytes: &[u8]) -> usize
 
 /// Puts a text and a number behind it, in decimal digits.
 pub fn put_number(page: &mut [u8], at: usize, label: &[u8], n: usize) -> usize
-    ensures { λ r. ⌜ Puts at (now (label .entry) ++ decimal n) (now (page .entry)) r (now (page .exit)) ⌝ }
+    ensures { λ r. ⌜ Puts at (labelled (now (label .entry)) n) (now (page .entry)) r (now (page .exit)) ⌝ }
 {
     let mut digits = [0u8; 20];
     let long = io::decimal(n as u64, &mut digits);
     let place = put(page, at, label);
     put(page, place, &digits[..long])
+}
+
+/// Puts a text and a word behind it, in decimal digits.
+pub fn put_word(page: &mut [u8], at: usize, label: &[u8], word: u32) -> usize
+    ensures { λ r. ⌜ Puts at (labelled (now (label .entry)) word) (now (page .entry)) r (now (page .exit)) ⌝ }
+{
+    put_number(page, at, label, word as usize)
+}
+
+/// What a page says up to a place.
+pub fn text<'a>(page: &'a [u8], end: usize) -> &'a [u8]
+    ensures { λ r. ⌜ now r ≡ take end (now (page .entry)) ⌝ }
+{
+    let long = cases::least(end, page.len());
+    &page[..long]
 }

@@ -1,4 +1,4 @@
--- One turn and the end of each loop over junk and over lanes, and a run that is read. Assumes nothing.
+-- One turn and the end of each loop over junk, over lanes and over what is put on a page, and a run that is read. Assumes nothing.
 use mathlib.Core.Path.{_≡_, refl, sym, ap, _∙_}
 use mathlib.Core.Bool.{Bool, true, false, not}
 use mathlib.Core.List.{List, [], _∷_, _++_, map, append-assoc, append-nil}
@@ -15,6 +15,8 @@ use Rattle.cases.specs.Text.{wordAt, sizeAt, behind}
 use Rattle.cases.proofs.Laws.{words-turn, words-none}
 use Rattle.refusals.specs.Given.{bitsOf, lanesAt, runAt, runIn}
 use Rattle.refusals.specs.Junk.{rising, stands, differs}
+use Rattle.refusals.specs.Texts.{beforePlace, nextColumn, placesText, wordsText}
+use Rattle.pages.specs.Page.{bytes, labelled}
 
 module _ {A : Type 0} (next : A → A) where
   -- the first i places are filled, and v is for the next
@@ -85,3 +87,24 @@ module _ {A : Type 0} (listed : ℕ → List ℕ → Cursor → List A) (text : 
   run-made s read fits part next made there =
       let long = length-take-le (s .value) out fits in
       (rw (← read, there, long), rw (← read, made, long))
+
+-- the words, and the places of a graph, from one on: the first, and the rest
+module _ (ws : List ℕ) (i : ℕ) where
+  pub words-here : i < length ws → wordsText (drop i ws) ≡ labelled (bytes " ") (getD ws i 0) ++ wordsText (drop (i + 1) ws)
+  unfolding wordsText
+  words-here h = rw (drop-cons ws i 0 h, add-one i)
+
+  pub words-over : length ws ≤ i → wordsText (drop i ws) ≡ []
+  unfolding wordsText
+  words-over h = rw (drop-of-length-le ws h)
+
+  module _ (size column : ℕ) where
+    pub places-here :
+        i < length ws
+        → placesText size i column (drop i ws) ≡ labelled (beforePlace i column) (getD ws i 0) ++ placesText size (i + 1) (nextColumn size column) (drop (i + 1) ws)
+    unfolding placesText
+    places-here h = rw (drop-cons ws i 0 h, add-one i)
+
+    pub places-over : length ws ≤ i → placesText size i column (drop i ws) ≡ []
+    unfolding placesText
+    places-over h = rw (drop-of-length-le ws h)

@@ -3,11 +3,12 @@ ghost use mathlib.Core.Path.{_≡_};
 ghost use Prim.Native.Nat.{_≤_};
 ghost use lib.ListN.{length};
 ghost use Rattle.cases.specs.Text.{wordsAt, behind};
+ghost use Rattle.pages.specs.Page.{labelled, Puts};
+ghost use Rattle.refusals.specs.Texts.{beforePlace, nextColumn, refusalText, graphText, leftText, wordsText, endText};
 ghost use Rattle.refusals.specs.Junk.{rising, nextWord, nextFloat, wordsStand, floatsStand, junkWord, junkFloat, scratchStands, scratchZero, leftOf};
 ghost use Rattle.refusals.specs.Given.{wideOf, bitsOf, lanesAt, runAt, runIn};
 use cases::Cursor;
 use cases::Size;
-use libc::STDOUT_FILENO;
 use rules::Refusal;
 
 // What the first place of each scratch slice holds before a call; each further place holds one more.
@@ -189,76 +190,82 @@ pub fn scratch_left(words: &[u32], floats: &[f32]) -> Left
     Left::Written
 }
 
-/// Prints a number behind a text.
-pub fn put(before: &[u8], n: usize) {
-    io::write_all(STDOUT_FILENO, before);
-    io::print_decimal(STDOUT_FILENO, n as u64);
-}
-
-/// Prints a word behind a text.
-pub fn put_word(before: &[u8], word: u32) {
-    put(before, word as usize);
-}
-
-/// Prints a refusal's number and places.
-pub fn put_refusal(r: Refusal) {
+/// Puts a refusal's number and places on a page.
+pub fn put_refusal(page: &mut [u8], at: usize, r: Refusal) -> usize
+    ensures { λ e. ⌜ Puts at (refusalText r) (now (page .entry)) e (now (page .exit)) ⌝ }
+{
     let said = answers::of_refusal(r);
-    put(b": ", said.refusal);
-    put(b",", said.first);
-    put(b",", said.second);
+    let number = pages::put_number(page, at, b": ", said.refusal);
+    let first = pages::put_number(page, number, b",", said.first);
+    pages::put_number(page, first, b",", said.second)
 }
 
-fn put_place(i: usize, column: usize, node: u32) {
+fn put_place(page: &mut [u8], at: usize, i: usize, column: usize, node: u32) -> usize
+    ensures { λ e. ⌜ Puts at (labelled (beforePlace i column) node) (now (page .entry)) e (now (page .exit)) ⌝ }
+{
     if i == 0 {
-        put_word(b": ", node);
-        return;
+        return pages::put_word(page, at, b": ", node);
     }
     if column == 0 {
-        put_word(b" / ", node);
-        return;
+        return pages::put_word(page, at, b" / ", node);
     }
-    put_word(b",", node);
+    pages::put_word(page, at, b",", node)
 }
 
-/// Prints a graph as the settled squares have it: every place of a row, and row after row.
-pub fn put_graph(graph: &[u32], index_size: usize) {
+fn next_column(column: usize, index_size: usize) -> usize
+    ensures { λ r. ⌜ r ≡ nextColumn «index_size» column ⌝ }
+{
+    let next = std::num::wrapping_add_usize(column, 1);
+    if next == index_size {
+        return 0;
+    }
+    next
+}
+
+/// Puts a graph on a page as the settled squares have it: every place of a row, and row after row.
+pub fn put_graph(page: &mut [u8], at: usize, graph: &[u32], index_size: usize) -> usize
+    ensures { λ e. ⌜ Puts at (graphText «index_size» (now (graph .entry))) (now (page .entry)) e (now (page .exit)) ⌝ }
+{
     let mut i: usize = 0;
     let mut column: usize = 0;
+    let mut place = pages::put(page, at, b"");
     while i < graph.len() {
-        put_place(i, column, graph[i]);
-        column = std::num::wrapping_add_usize(column, 1);
-        if column == index_size {
-            column = 0;
-        }
+        place = put_place(page, place, i, column, graph[i]);
+        column = next_column(column, index_size);
         i += 1;
     }
+    place
 }
 
 /// Ends a line by what became of the lent places.
-pub fn put_left(l: Left) {
+pub fn put_left(page: &mut [u8], at: usize, l: Left) -> usize
+    ensures { λ e. ⌜ Puts at (leftText l) (now (page .entry)) e (now (page .exit)) ⌝ }
+{
     match l {
-        Left::Untouched => io::write_all(STDOUT_FILENO, b", untouched\n"),
-        Left::Zeroed => io::write_all(STDOUT_FILENO, b", zeroed\n"),
-        Left::Written => io::write_all(STDOUT_FILENO, b", written\n"),
+        Left::Untouched => pages::put(page, at, b", untouched\n"),
+        Left::Zeroed => pages::put(page, at, b", zeroed\n"),
+        Left::Written => pages::put(page, at, b", written\n"),
     }
-    ;
 }
 
-/// Prints the first `count` words, each behind a space.
-pub fn print_words(words: &[u32], count: usize) {
+/// Puts words on a page, each behind a space.
+pub fn put_words(page: &mut [u8], at: usize, words: &[u32]) -> usize
+    ensures { λ e. ⌜ Puts at (wordsText (now (words .entry))) (now (page .entry)) e (now (page .exit)) ⌝ }
+{
     let mut i: usize = 0;
-    while i < count {
-        if i >= words.len() {
-            return;
-        }
-        put_word(b" ", words[i]);
+    let mut place = pages::put(page, at, b"");
+    while i < words.len() {
+        place = pages::put_word(page, place, b" ", words[i]);
         i += 1;
     }
+    place
 }
 
-/// Prints how many cases were passed, and the reader's fault.
-pub fn put_end(passed: u32, c: Cursor) {
-    put_word(b"cases: ", passed);
-    put_word(b", fault: ", c.fault);
-    io::write_all(STDOUT_FILENO, b"\n");
+/// Puts on a page how many cases were passed, and the reader's fault.
+pub fn put_end(page: &mut [u8], at: usize, passed: u32, c: Cursor) -> usize
+    ensures { λ e. ⌜ Puts at (endText passed c) (now (page .entry)) e (now (page .exit)) ⌝ }
+{
+    let cases = pages::put_word(page, at, b"cases: ", passed);
+    let fault = pages::put_word(page, cases, b", fault: ", c.fault);
+    pages::put(page, fault, b"\n")
 }

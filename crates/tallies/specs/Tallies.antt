@@ -1,11 +1,12 @@
 -- How a case came out, and how many did. Assumes nothing.
 use mathlib.Core.Bool.{Bool, cond}
-use mathlib.Core.List.{List}
+use mathlib.Core.List.{List, _++_}
 use Prim.Native.Nat.{ℕ, _+_, _%_, _^_}
 use lib.Dec.{eqb}
 use lib.Ieee.{Float}
 use Rattle.cases.specs.declared.Cursor.{Cursor}
 use Rattle.cases.specs.Text.{first, faulted}
+use Rattle.pages.specs.Page.{bytes, labelled}
 use Rattle.replays.specs.Compare.{holdsOnly, allZero}
 use Rattle.tallies.specs.declared.Outcome.{Outcome}
 use Rattle.tallies.specs.declared.Tally.{Tally}
@@ -34,3 +35,9 @@ counted t o =
 unfoldable pub closed : Tally → ℕ → Cursor → Tally
 closed t kind c =
     record { compared = t .compared; differ = t .differ; cursor = cond (eqb kind 0) c (faulted c 4) }
+
+-- What is said of all cases
+unfoldable pub tallyText : List ℕ → Tally → List ℕ
+tallyText label t =
+    labelled label (t .compared) ++ labelled (bytes "\nthat differ: ") (t .differ) ++ labelled (bytes "\nnumbers: ") (t .cursor .count)
+    ++ labelled (bytes ", sum: ") (t .cursor .sum) ++ labelled (bytes ", fault: ") (t .cursor .fault) ++ bytes "\n"

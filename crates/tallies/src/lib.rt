@@ -1,7 +1,8 @@
 // What the replays count and say: how a case came out, and how many did.
 ghost use mathlib.Core.Path.{_≡_};
 ghost use Rattle.io.specs.Counts.{Counts};
-ghost use Rattle.tallies.specs.Tallies.{noCase, joined, scratched, counted, closed};
+ghost use Rattle.pages.specs.Page.{Puts};
+ghost use Rattle.tallies.specs.Tallies.{noCase, joined, scratched, counted, closed, tallyText};
 use cases::Cursor;
 use libc::STDOUT_FILENO;
 
@@ -73,23 +74,24 @@ pub fn with_scratch(o: Outcome, words: &[u32], floats: &[f32]) -> Outcome
     and(p, replays::all_zero(floats), SCRATCH)
 }
 
-fn put(label: &[u8], n: u32) {
-    io::write_all(STDOUT_FILENO, label);
-    io::print_decimal(STDOUT_FILENO, n as u64);
+fn put_differs(page: &mut [u8], at: usize, differs: u32) -> usize {
+    match differs {
+        1 => pages::put(page, at, b" is refused\n"),
+        2 => pages::put(page, at, b" differs in a length\n"),
+        3 => pages::put(page, at, b" differs in node numbers\n"),
+        4 => pages::put(page, at, b" differs in distance bits\n"),
+        5 => pages::put(page, at, b" differs in a count\n"),
+        6 => pages::put(page, at, b" changes a place that is not its own\n"),
+        7 => pages::put(page, at, b" leaves scratch that is not zero\n"),
+        _ => pages::put(page, at, b" differs in other words\n"),
+    }
 }
 
-fn say(differs: u32) {
-    match differs {
-        1 => io::write_all(STDOUT_FILENO, b" is refused\n"),
-        2 => io::write_all(STDOUT_FILENO, b" differs in a length\n"),
-        3 => io::write_all(STDOUT_FILENO, b" differs in node numbers\n"),
-        4 => io::write_all(STDOUT_FILENO, b" differs in distance bits\n"),
-        5 => io::write_all(STDOUT_FILENO, b" differs in a count\n"),
-        6 => io::write_all(STDOUT_FILENO, b" changes a place that is not its own\n"),
-        7 => io::write_all(STDOUT_FILENO, b" leaves scratch that is not zero\n"),
-        _ => io::write_all(STDOUT_FILENO, b" differs in other words\n"),
-    }
-    ;
+fn say(case: u32, differs: u32) {
+    let mut page = [0u8; 64];
+    let number = pages::put_word(&mut page, 0, b"case ", case);
+    let end = put_differs(&mut page, number, differs);
+    io::write_all(STDOUT_FILENO, pages::text(&page, end));
 }
 
 /// The tally with one case more. What differs is said at once.
@@ -100,8 +102,7 @@ pub fn with_case(t: Tally, o: Outcome) -> Tally
     let cursor = o.cursor;
     let mut differ = t.differ;
     if o.differs != NOTHING {
-        put(b"case ", compared);
-        say(o.differs);
+        say(compared, o.differs);
         differ = std::num::wrapping_add_u32(differ, 1);
     }
     Tally {
@@ -142,12 +143,14 @@ pub fn read_named(i: usize, room: &mut [u8]) -> usize
     long
 }
 
-/// Prints the tally: what was compared, how many differ, and the numbers read with their sum.
-pub fn print(label: &[u8], t: Tally) {
-    put(label, t.compared);
-    put(b"\nthat differ: ", t.differ);
-    put(b"\nnumbers: ", t.cursor.count);
-    put(b", sum: ", t.cursor.sum);
-    put(b", fault: ", t.cursor.fault);
-    io::write_all(STDOUT_FILENO, b"\n");
+/// Puts the tally on a page: what was compared, how many differ, and the numbers read with their sum.
+pub fn put_tally(page: &mut [u8], at: usize, label: &[u8], t: Tally) -> usize
+    ensures { λ r. ⌜ Puts at (tallyText (now (label .entry)) t) (now (page .entry)) r (now (page .exit)) ⌝ }
+{
+    let compared = pages::put_word(page, at, label, t.compared);
+    let differ = pages::put_word(page, compared, b"\nthat differ: ", t.differ);
+    let count = pages::put_word(page, differ, b"\nnumbers: ", t.cursor.count);
+    let sum = pages::put_word(page, count, b", sum: ", t.cursor.sum);
+    let fault = pages::put_word(page, sum, b", fault: ", t.cursor.fault);
+    pages::put(page, fault, b"\n")
 }

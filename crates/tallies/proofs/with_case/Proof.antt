@@ -8,12 +8,6 @@ use Rattle.tallies.proofs.with_case.Tie as tie
 wrapping-add-u32-requires : tie.Need-wrapping-add-u32-requires
 wrapping-add-u32-requires c κs = search needs
 
-slice-aggregate-put : tie.Need-slice-aggregate-put
-slice-aggregate-put c = search needs
-
-put-requires : tie.Need-put-requires
-put-requires c κs = search needs
-
 say-requires : tie.Need-say-requires
 say-requires c κs = search needs
 
@@ -23,7 +17,7 @@ wrapping-add-u32-requires-2 c κs = search needs
 returns : tie.Need-returns
 unfolding counted
 returns c =
-    simp (c .before .before .before .before .before .before .before .wrapping-add-u32 .ensures, c .wrapping-add-u322 .ensures, ne-eqb _ _ (c .before .before .before .before .if1 .taken))
+    simp (c .before .before .before .before .before .wrapping-add-u32 .ensures, c .wrapping-add-u322 .ensures, ne-eqb _ _ (c .before .before .if1 .taken))
 
 returns-2 : tie.Need-returns-2
 unfolding counted
@@ -34,8 +28,6 @@ with-case-spec =
     tie.close
     (tie.spec
     wrapping-add-u32-requires
-    slice-aggregate-put
-    put-requires
     say-requires
     wrapping-add-u32-requires-2
     returns
