@@ -1,10 +1,125 @@
 // Square C and every row of the table that `build` can give, at its edges and beside the rows after it: each case of stdin is called on lent
 // places full of junk, and says what became of them. stdin says what its numbers are.
-use call::Call;
 use cases::Cursor;
+use libc::STDOUT_FILENO;
 use params::SsgParams;
+use refusals::Left;
+use rules::Answer;
 
-mod call;
+// What the first place of the graph holds before a call; each further place holds one more.
+const GRAPH: u32 = 0xCD00_0000;
+// A longer graph is not printed.
+const PRINTED: usize = 256;
+
+// The numbers of a call, and how long each slice is that it lends.
+struct Call {
+    params: SsgParams,
+    dimension: usize,
+    n: usize,
+    graph: usize,
+    words: usize,
+    floats: usize,
+    lanes: usize,
+}
+
+// A graph of rows of one place: the first, and whether each further one holds the node before its own.
+fn put_long(page: &mut [u8], at: usize, graph: &[u32]) -> usize {
+    if graph.len() == 0 {
+        return at;
+    }
+    let first = pages::put_word(page, at, b": ", graph[0]);
+    if !refusals::kept_words(graph, 1, 0xFFFF_FFFF) {
+        return first;
+    }
+    let behind = pages::put_number(page, first, b", and ", graph.len() - 1);
+    pages::put(page, behind, b" nodes one behind")
+}
+
+fn put_graph(page: &mut [u8], at: usize, graph: &[u32], index_size: usize) -> usize {
+    if graph.len() <= PRINTED {
+        return refusals::put_graph(page, at, graph, index_size);
+    }
+    put_long(page, at, graph)
+}
+
+// What became of the lent places: a refusal leaves the graph too.
+fn left_refused(graph: &[u32], words: &[u32], floats: &[f32]) -> Left {
+    if !refusals::kept_words(graph, 0, GRAPH) {
+        return Left::Written;
+    }
+    refusals::scratch_left(words, floats)
+}
+
+// The rest of a call's line.
+fn put_rest(
+    page: &mut [u8],
+    at: usize,
+    answer: Answer,
+    index_size: usize,
+    graph: &[u32],
+    words: &[u32],
+    floats: &[f32],
+) -> usize {
+    match answer {
+        Answer::Done => {
+            let behind = put_graph(page, at, graph, index_size);
+            refusals::put_left(page, behind, refusals::scratch_left(words, floats))
+        }
+        Answer::Refused(r) => {
+            let behind = refusals::put_refusal(page, at, r);
+            refusals::put_left(page, behind, left_refused(graph, words, floats))
+        }
+    }
+}
+
+fn told(
+    number: u32,
+    answer: Answer,
+    index_size: usize,
+    graph: &[u32],
+    words: &[u32],
+    floats: &[f32],
+) {
+    let mut page = [0u8; 4096];
+    let case = pages::put_word(&mut page, 0, b"case ", number);
+    let end = put_rest(&mut page, case, answer, index_size, graph, words, floats);
+    io::write_all(STDOUT_FILENO, pages::text(&page, end));
+}
+
+// The call on the slices it lends, and its line.
+fn called(
+    number: u32,
+    c: Call,
+    lanes: &[f32],
+    graph: &mut [u32],
+    words: &mut [u32],
+    floats: &mut [f32],
+) {
+    refusals::fill_words(graph, GRAPH);
+    refusals::fill_scratch(words, floats);
+    let params = c.params;
+    let answer = build::build(params, c.dimension, c.n, lanes, graph, words, floats);
+    told(number, answer, params.index_size, graph, words, floats);
+}
+
+// A call on the first of given lanes and on places of our own, as many as it says.
+fn lend(number: u32, c: Call, lanes: &[f32]) {
+    let mut graph = [0u32; 4096];
+    let mut words = [0u32; 36864];
+    let mut floats = [0.0f32; 36864];
+    let lanes_long = cases::least(c.lanes, lanes.len());
+    let graph_long = cases::least(c.graph, 4096);
+    let words_long = cases::least(c.words, 36864);
+    let floats_long = cases::least(c.floats, 36864);
+    called(
+        number,
+        c,
+        &lanes[..lanes_long],
+        &mut graph[..graph_long],
+        &mut words[..words_long],
+        &mut floats[..floats_long],
+    );
+}
 
 fn params_of(xs: [u32; 10]) -> SsgParams {
     SsgParams::default()
@@ -33,9 +148,15 @@ fn one_case(text: &[u8], c: Cursor, number: u32) -> Cursor {
     refusals::fill_floats(&mut lanes, 0.0);
     let numbers = cases::read_words(text, c, &mut xs);
     let given = refusals::read_lanes(text, numbers, &mut lanes);
-    refusals::put_word(b"case ", number);
-    call::lend(call_of(xs), &lanes);
+    lend(number, call_of(xs), &lanes);
     given.cursor
+}
+
+// The last line: how many cases there were, and the reader's fault.
+fn say_end(passed: u32, c: Cursor) {
+    let mut page = [0u8; 64];
+    let end = refusals::put_end(&mut page, 0, passed, c);
+    io::write_all(STDOUT_FILENO, pages::text(&page, end));
 }
 
 // A proved loop has to end: it counts its turns down, from more cases than a list has.
@@ -47,7 +168,7 @@ fn all_cases(text: &[u8]) {
         let case = replays::next_case(text, cursor, passed);
         let behind = case.cursor;
         if case.kind == 0 {
-            refusals::put_end(passed, behind);
+            say_end(passed, behind);
             return;
         }
         passed = std::num::wrapping_add_u32(passed, 1);

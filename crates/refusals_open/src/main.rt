@@ -1,9 +1,157 @@
 // Every row of the table of a relay's `open`, at its edges and beside the rows after it; stdin says what its numbers are.
-use call::Call;
-use call::Entry;
 use cases::Cursor;
+use libc::STDOUT_FILENO;
+use refusals::Left;
+use rules::Answer;
 
-mod call;
+// The distance of an unfilled entry, 0x7F7FFFFF by its bits.
+const EMPTY: f32 = 340282346638528859811704183484516925440.0;
+
+// The numbers of a call, and how long the lists, the state and scratch are that it lends.
+struct Call {
+    dimension: usize,
+    n: usize,
+    k: usize,
+    nodes: usize,
+    dists: usize,
+    words: usize,
+    floats: usize,
+    scratch_u: usize,
+    scratch_f: usize,
+}
+
+// An entry that is put into the lists before the call; a place behind their end changes nothing.
+struct Entry {
+    at: usize,
+    node: u32,
+    dist: f32,
+}
+
+// What became of the state and of scratch where the call is refused.
+fn left_refused(words: &[u32], floats: &[f32], scratch_u: &[u32], scratch_f: &[f32]) -> Left {
+    let l = refusals::scratch_left(words, floats);
+    let Left::Untouched = l else {
+        return Left::Written;
+    };
+    refusals::scratch_left(scratch_u, scratch_f)
+}
+
+// The rest of a call's line.
+fn put_rest(
+    page: &mut [u8],
+    at: usize,
+    answer: Answer,
+    words: &[u32],
+    floats: &[f32],
+    scratch_u: &[u32],
+    scratch_f: &[f32],
+) -> usize {
+    match answer {
+        Answer::Done => {
+            let behind = pages::put(page, at, b": done");
+            refusals::put_left(page, behind, refusals::scratch_left(scratch_u, scratch_f))
+        }
+        Answer::Refused(r) => {
+            let behind = refusals::put_refusal(page, at, r);
+            let left = left_refused(words, floats, scratch_u, scratch_f);
+            refusals::put_left(page, behind, left)
+        }
+    }
+}
+
+fn told(
+    number: u32,
+    answer: Answer,
+    words: &[u32],
+    floats: &[f32],
+    scratch_u: &[u32],
+    scratch_f: &[f32],
+) {
+    let mut page = [0u8; 128];
+    let case = pages::put_word(&mut page, 0, b"case ", number);
+    let end = put_rest(&mut page, case, answer, words, floats, scratch_u, scratch_f);
+    io::write_all(STDOUT_FILENO, pages::text(&page, end));
+}
+
+// The call on the slices it lends, and its line.
+fn called(
+    number: u32,
+    c: Call,
+    lanes: &[f32],
+    nodes: &[u32],
+    dists: &[f32],
+    jobs: &[u32],
+    words: &mut [u32],
+    floats: &mut [f32],
+    scratch_u: &mut [u32],
+    scratch_f: &mut [f32],
+) {
+    refusals::fill_scratch(words, floats);
+    refusals::fill_scratch(scratch_u, scratch_f);
+    let answer = relay_opening::open(
+        c.dimension,
+        c.n,
+        lanes,
+        c.k,
+        nodes,
+        dists,
+        jobs,
+        words,
+        floats,
+        scratch_u,
+        scratch_f,
+    );
+    told(number, answer, words, floats, scratch_u, scratch_f);
+}
+
+// The call on the parts of our places that are as long as it says.
+fn in_places(number: u32, c: Call, lanes: &[f32], nodes: &[u32], dists: &[f32], jobs: &[u32]) {
+    let mut words = [0u32; 1540];
+    let mut floats = [0.0f32; 576];
+    let mut scratch_u = [0u32; 6145];
+    let mut scratch_f = [0.0f32; 6145];
+    let words_long = cases::least(c.words, 1540);
+    let floats_long = cases::least(c.floats, 576);
+    let u_long = cases::least(c.scratch_u, 6145);
+    let f_long = cases::least(c.scratch_f, 6145);
+    called(
+        number,
+        c,
+        lanes,
+        nodes,
+        dists,
+        jobs,
+        &mut words[..words_long],
+        &mut floats[..floats_long],
+        &mut scratch_u[..u_long],
+        &mut scratch_f[..f_long],
+    );
+}
+
+// The call on the parts of the lists that are as long as it says.
+fn cut(number: u32, c: Call, lanes: &[f32], nodes: &[u32], dists: &[f32], jobs: &[u32]) {
+    let nodes_long = cases::least(c.nodes, nodes.len());
+    let dists_long = cases::least(c.dists, dists.len());
+    in_places(
+        number,
+        c,
+        lanes,
+        &nodes[..nodes_long],
+        &dists[..dists_long],
+        jobs,
+    );
+}
+
+// A call on given lanes and jobs, on lists that are unfilled but for two entries.
+fn lend(number: u32, c: Call, lanes: &[f32], jobs: &[u32], e: Entry, f: Entry) {
+    let mut nodes = [4u32; 256];
+    let mut dists = [EMPTY; 256];
+    relays::put_word(&mut nodes, e.at, e.node);
+    relays::put_float(&mut dists, e.at, e.dist);
+    relays::put_word(&mut nodes, f.at, f.node);
+    relays::put_float(&mut dists, f.at, f.dist);
+    cut(number, c, lanes, &nodes, &dists, jobs);
+}
 
 fn call_of(xs: [u32; 15]) -> Call {
     Call {
@@ -39,7 +187,7 @@ fn one_case(text: &[u8], c: Cursor, number: u32) -> Cursor {
     let jobs_long = j.value;
     let e = entry_of(xs[9], xs[10], xs[11]);
     let f = entry_of(xs[12], xs[13], xs[14]);
-    call::lend(
+    lend(
         number,
         call_of(xs),
         &lanes[..lanes_long],
@@ -48,6 +196,13 @@ fn one_case(text: &[u8], c: Cursor, number: u32) -> Cursor {
         f,
     );
     j.cursor
+}
+
+// The last line: how many cases there were, and the reader's fault.
+fn say_end(passed: u32, c: Cursor) {
+    let mut page = [0u8; 64];
+    let end = refusals::put_end(&mut page, 0, passed, c);
+    io::write_all(STDOUT_FILENO, pages::text(&page, end));
 }
 
 // A proved loop has to end: it counts its turns down, from more cases than a list has.
@@ -59,7 +214,7 @@ fn all_cases(text: &[u8]) {
         let case = replays::next_case(text, cursor, passed);
         let behind = case.cursor;
         if case.kind == 0 {
-            refusals::put_end(passed, behind);
+            say_end(passed, behind);
             return;
         }
         passed = std::num::wrapping_add_u32(passed, 1);

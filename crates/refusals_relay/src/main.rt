@@ -1,9 +1,265 @@
 // Every row of the tables of a relay's move and close, and every clause of a well-formed relay state; stdin says what its numbers are.
-use call::Lent;
-use call::State;
 use cases::Cursor;
+use libc::STDOUT_FILENO;
+use refusals::Left;
+use rules::Answer;
 
-mod call;
+// What the first place of the reports holds before a close; each further place holds one more.
+const REPORTS: u32 = 0xCD00_0000;
+// The distance of an unfilled entry, 0x7F7FFFFF by its bits.
+const EMPTY: f32 = 340282346638528859811704183484516925440.0;
+
+// The numbers of a call, and how long each slice is that it lends.
+struct Lent {
+    n: usize,
+    k: usize,
+    job: usize,
+    words: usize,
+    floats: usize,
+    nodes: usize,
+    dists: usize,
+    reports: usize,
+}
+
+// How many steps job 0 and each other job has done, and then two words and a float that are put at places of the state; a place behind
+// the end changes nothing.
+struct State {
+    first: usize,
+    rest: usize,
+    at: usize,
+    word: u32,
+    also: usize,
+    other: u32,
+    float_at: usize,
+    float: f32,
+}
+
+// Four jobs on the lanes and unfilled lists of square I: its own three, and one with u = v.
+fn opened(words: &mut [u32], floats: &mut [f32]) {
+    let lanes = [0.0f32, 1.0, 3.0, 7.0];
+    let jobs = [0u32, 1, 0, 3, 0, 2, 1, 1];
+    let nodes = [4u32; 8];
+    let dists = [EMPTY; 8];
+    let mut scratch_u = [0u32; 6144];
+    let mut scratch_f = [0.0f32; 6144];
+    relay_opening::open(
+        1,
+        4,
+        &lanes,
+        2,
+        &nodes,
+        &dists,
+        &jobs,
+        words,
+        floats,
+        &mut scratch_u,
+        &mut scratch_f,
+    );
+}
+
+fn advance(words: &mut [u32], floats: &mut [f32], job: usize, steps: usize) {
+    let mut left = steps;
+    while left > 0 {
+        relay_move::move_job(4, 2, job, words, floats);
+        left -= 1;
+    }
+}
+
+fn advance_all(s: State, words: &mut [u32], floats: &mut [f32]) {
+    advance(words, floats, 0, s.first);
+    advance(words, floats, 1, s.rest);
+    advance(words, floats, 2, s.rest);
+    advance(words, floats, 3, s.rest);
+}
+
+fn damage(s: State, words: &mut [u32], floats: &mut [f32]) {
+    relays::put_word(words, s.at, s.word);
+    relays::put_word(words, s.also, s.other);
+    relays::put_float(floats, s.float_at, s.float);
+}
+
+fn make_in(s: State, words: &mut [u32], floats: &mut [f32]) {
+    opened(words, floats);
+    advance_all(s, words, floats);
+    damage(s, words, floats);
+}
+
+// The state in the front of two slices.
+fn make(s: State, words: &mut [u32], floats: &mut [f32]) {
+    let words_long = cases::least(1292, words.len());
+    let floats_long = cases::least(328, floats.len());
+    make_in(s, &mut words[..words_long], &mut floats[..floats_long]);
+}
+
+fn same(words: &[u32], floats: &[f32], twin_words: &[u32], twin_floats: &[f32]) -> Left {
+    if !states::same_words(words, twin_words) {
+        return Left::Written;
+    }
+    if !states::same_floats(floats, twin_floats) {
+        return Left::Written;
+    }
+    Left::Untouched
+}
+
+fn put_moved(page: &mut [u8], at: usize, answer: Answer) -> usize {
+    match answer {
+        Answer::Done => pages::put(page, at, b": moved"),
+        Answer::Refused(r) => refusals::put_refusal(page, at, r),
+    }
+}
+
+fn told_move(number: u32, answer: Answer, left: Left) {
+    let mut page = [0u8; 128];
+    let case = pages::put_word(&mut page, 0, b"case ", number);
+    let call = pages::put(&mut page, case, b", move");
+    let behind = put_moved(&mut page, call, answer);
+    let end = refusals::put_left(&mut page, behind, left);
+    io::write_all(STDOUT_FILENO, pages::text(&page, end));
+}
+
+// A move on a state, and its line. `twin_words` and `twin_floats` are as the state is.
+fn moved(
+    number: u32,
+    l: Lent,
+    words: &mut [u32],
+    floats: &mut [f32],
+    twin_words: &[u32],
+    twin_floats: &[f32],
+) {
+    let answer = relay_move::move_job(l.n, l.k, l.job, words, floats);
+    told_move(number, answer, same(words, floats, twin_words, twin_floats));
+}
+
+// A move on the parts that are as long as the call says, and on those of a twin of the state.
+fn move_cut(
+    number: u32,
+    l: Lent,
+    words: &mut [u32],
+    floats: &mut [f32],
+    twin_words: &[u32],
+    twin_floats: &[f32],
+) {
+    let words_long = cases::least(l.words, words.len());
+    let floats_long = cases::least(l.floats, floats.len());
+    let twin_words_long = cases::least(l.words, twin_words.len());
+    let twin_floats_long = cases::least(l.floats, twin_floats.len());
+    moved(
+        number,
+        l,
+        &mut words[..words_long],
+        &mut floats[..floats_long],
+        &twin_words[..twin_words_long],
+        &twin_floats[..twin_floats_long],
+    );
+}
+
+// A move on a state, beside a twin of it.
+fn lend_move(number: u32, l: Lent, s: State) {
+    let mut words = [0u32; 1293];
+    let mut floats = [0.0f32; 329];
+    make(s, &mut words, &mut floats);
+    let twin_words = words;
+    let twin_floats = floats;
+    move_cut(
+        number,
+        l,
+        &mut words,
+        &mut floats,
+        &twin_words,
+        &twin_floats,
+    );
+}
+
+// What became of all places where a close is refused.
+fn left_refused(nodes: &[u32], dists: &[f32], reports: &[u32]) -> Left {
+    if refusals::kept_words(reports, 0, REPORTS) {
+        return refusals::scratch_left(nodes, dists);
+    }
+    Left::Written
+}
+
+// What became of the reports behind those of the four jobs.
+fn left_done(reports: &[u32]) -> Left {
+    if refusals::kept_words(reports, 8, REPORTS) {
+        return Left::Untouched;
+    }
+    Left::Written
+}
+
+fn put_closed(
+    page: &mut [u8],
+    at: usize,
+    answer: Answer,
+    nodes: &[u32],
+    dists: &[f32],
+    reports: &[u32],
+) -> usize {
+    match answer {
+        Answer::Done => {
+            let long = cases::least(8, reports.len());
+            let named = pages::put(page, at, b": reports");
+            let listed = refusals::put_words(page, named, &reports[..long]);
+            refusals::put_left(page, listed, left_done(reports))
+        }
+        Answer::Refused(r) => {
+            let behind = refusals::put_refusal(page, at, r);
+            refusals::put_left(page, behind, left_refused(nodes, dists, reports))
+        }
+    }
+}
+
+fn told_close(number: u32, answer: Answer, nodes: &[u32], dists: &[f32], reports: &[u32]) {
+    let mut page = [0u8; 256];
+    let case = pages::put_word(&mut page, 0, b"case ", number);
+    let call = pages::put(&mut page, case, b", close");
+    let end = put_closed(&mut page, call, answer, nodes, dists, reports);
+    io::write_all(STDOUT_FILENO, pages::text(&page, end));
+}
+
+// A close of a state, and its line.
+fn closed(
+    number: u32,
+    l: Lent,
+    words: &[u32],
+    floats: &[f32],
+    nodes: &mut [u32],
+    dists: &mut [f32],
+    reports: &mut [u32],
+) {
+    refusals::fill_scratch(nodes, dists);
+    refusals::fill_words(reports, REPORTS);
+    let answer = relay_close::close(l.n, l.k, words, floats, nodes, dists, reports);
+    told_close(number, answer, nodes, dists, reports);
+}
+
+// A close of parts that are as long as the call says.
+fn close_cut(number: u32, l: Lent, words: &[u32], floats: &[f32]) {
+    let mut nodes = [0u32; 9];
+    let mut dists = [0.0f32; 9];
+    let mut reports = [0u32; 129];
+    let words_long = cases::least(l.words, words.len());
+    let floats_long = cases::least(l.floats, floats.len());
+    let nodes_long = cases::least(l.nodes, 9);
+    let dists_long = cases::least(l.dists, 9);
+    let reports_long = cases::least(l.reports, 129);
+    closed(
+        number,
+        l,
+        &words[..words_long],
+        &floats[..floats_long],
+        &mut nodes[..nodes_long],
+        &mut dists[..dists_long],
+        &mut reports[..reports_long],
+    );
+}
+
+// A close of a state.
+fn lend_close(number: u32, l: Lent, s: State) {
+    let mut words = [0u32; 1293];
+    let mut floats = [0.0f32; 329];
+    make(s, &mut words, &mut floats);
+    close_cut(number, l, &words, &floats);
+}
 
 fn lent_of(xs: [u32; 16]) -> Lent {
     Lent {
@@ -34,10 +290,10 @@ fn state_of(xs: [u32; 16]) -> State {
 // The calls of a case of some kind: 1 a move, 2 a close, else both.
 fn called(number: u32, kind: u32, l: Lent, s: State) {
     if kind != 2 {
-        call::lend_move(number, l, s);
+        lend_move(number, l, s);
     }
     if kind != 1 {
-        call::lend_close(number, l, s);
+        lend_close(number, l, s);
     }
 }
 
@@ -46,6 +302,13 @@ fn one_case(text: &[u8], c: Cursor, number: u32, kind: u32) -> Cursor {
     let cursor = cases::read_words(text, c, &mut xs);
     called(number, kind, lent_of(xs), state_of(xs));
     cursor
+}
+
+// The last line: how many cases there were, and the reader's fault.
+fn say_end(passed: u32, c: Cursor) {
+    let mut page = [0u8; 64];
+    let end = refusals::put_end(&mut page, 0, passed, c);
+    io::write_all(STDOUT_FILENO, pages::text(&page, end));
 }
 
 // A proved loop has to end: it counts its turns down, from more cases than a list has.
@@ -57,7 +320,7 @@ fn all_cases(text: &[u8]) {
         let case = replays::next_case(text, cursor, passed);
         let behind = case.cursor;
         if case.kind == 0 {
-            refusals::put_end(passed, behind);
+            say_end(passed, behind);
             return;
         }
         passed = std::num::wrapping_add_u32(passed, 1);

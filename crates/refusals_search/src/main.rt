@@ -1,9 +1,148 @@
 // Settled squares D to G and J, and every row of the table that `search` can give, at its edges and beside the rows after it: each case of
 // stdin is called on lent places full of junk, and says what became of them. stdin says what its numbers are.
-use call::Call;
 use cases::Cursor;
+use libc::STDOUT_FILENO;
+use refusals::Left;
+use rules::SearchAnswer;
 
-mod call;
+// What the first place of each result slice holds before a call; each further place holds one more.
+const NODES: u32 = 0xCD00_0000;
+
+const BITS: u32 = 0xAB00_0000;
+
+// The numbers of a call, and how long the result slices and scratch are that it lends.
+struct Call {
+    dimension: usize,
+    n: usize,
+    index_size: usize,
+    k: usize,
+    nodes: usize,
+    bits: usize,
+    words: usize,
+    floats: usize,
+}
+
+// What became of the lent places, where the first `m` of the results are the answer's.
+fn left(m: usize, nodes: &[u32], bits: &[u32], words: &[u32], floats: &[f32]) -> Left {
+    if !refusals::kept_words(nodes, m, NODES) {
+        return Left::Written;
+    }
+    if !refusals::kept_words(bits, m, BITS) {
+        return Left::Written;
+    }
+    refusals::scratch_left(words, floats)
+}
+
+fn put_results(
+    page: &mut [u8],
+    at: usize,
+    m: usize,
+    takings: usize,
+    nodes: &[u32],
+    bits: &[u32],
+) -> usize {
+    let nodes_long = cases::least(m, nodes.len());
+    let bits_long = cases::least(m, bits.len());
+    let found = pages::put_number(page, at, b": ", m);
+    let taken = pages::put_number(page, found, b",", takings);
+    let named = pages::put(page, taken, b", nodes");
+    let listed = refusals::put_words(page, named, &nodes[..nodes_long]);
+    let away = pages::put(page, listed, b" at");
+    refusals::put_words(page, away, &bits[..bits_long])
+}
+
+// The rest of a call's line: the answer with its results, or the refusal's number and places; and what is left.
+fn put_rest(
+    page: &mut [u8],
+    at: usize,
+    answer: SearchAnswer,
+    nodes: &[u32],
+    bits: &[u32],
+    words: &[u32],
+    floats: &[f32],
+) -> usize {
+    match answer {
+        SearchAnswer::Found { m, takings } => {
+            let behind = put_results(page, at, m, takings, nodes, bits);
+            refusals::put_left(page, behind, left(m, nodes, bits, words, floats))
+        }
+        SearchAnswer::Refused(r) => {
+            let behind = refusals::put_refusal(page, at, r);
+            refusals::put_left(page, behind, left(0, nodes, bits, words, floats))
+        }
+    }
+}
+
+fn told(
+    number: u32,
+    answer: SearchAnswer,
+    nodes: &[u32],
+    bits: &[u32],
+    words: &[u32],
+    floats: &[f32],
+) {
+    let mut page = [0u8; 2048];
+    let case = pages::put_word(&mut page, 0, b"case ", number);
+    let end = put_rest(&mut page, case, answer, nodes, bits, words, floats);
+    io::write_all(STDOUT_FILENO, pages::text(&page, end));
+}
+
+// The call on the slices it lends, and its line.
+fn called(
+    number: u32,
+    c: Call,
+    lanes: &[f32],
+    graph: &[u32],
+    roots: &[u32],
+    query: &[f32],
+    nodes: &mut [u32],
+    bits: &mut [u32],
+    words: &mut [u32],
+    floats: &mut [f32],
+) {
+    refusals::fill_words(nodes, NODES);
+    refusals::fill_words(bits, BITS);
+    refusals::fill_scratch(words, floats);
+    let answer = search::search(
+        c.dimension,
+        c.n,
+        lanes,
+        graph,
+        c.index_size,
+        roots,
+        query,
+        c.k,
+        nodes,
+        bits,
+        words,
+        floats,
+    );
+    told(number, answer, nodes, bits, words, floats);
+}
+
+// A call on what is given, on places of our own that are as long as it says.
+fn lend(number: u32, c: Call, lanes: &[f32], graph: &[u32], roots: &[u32], query: &[f32]) {
+    let mut nodes = [0u32; 65];
+    let mut bits = [0u32; 65];
+    let mut words = [0u32; 1284];
+    let mut floats = [0.0f32; 1284];
+    let nodes_long = cases::least(c.nodes, 65);
+    let bits_long = cases::least(c.bits, 65);
+    let words_long = cases::least(c.words, 1284);
+    let floats_long = cases::least(c.floats, 1284);
+    called(
+        number,
+        c,
+        lanes,
+        graph,
+        roots,
+        query,
+        &mut nodes[..nodes_long],
+        &mut bits[..bits_long],
+        &mut words[..words_long],
+        &mut floats[..floats_long],
+    );
+}
 
 fn call_of(xs: [u32; 8]) -> Call {
     Call {
@@ -34,8 +173,8 @@ fn one_case(text: &[u8], c: Cursor, number: u32) -> Cursor {
     let graph_long = g.value;
     let roots_long = r.value;
     let query_long = q.value;
-    refusals::put_word(b"case ", number);
-    call::lend(
+    lend(
+        number,
         call_of(xs),
         &lanes[..lanes_long],
         &graph[..graph_long],
@@ -43,6 +182,13 @@ fn one_case(text: &[u8], c: Cursor, number: u32) -> Cursor {
         &query[..query_long],
     );
     q.cursor
+}
+
+// The last line: how many cases there were, and the reader's fault.
+fn say_end(passed: u32, c: Cursor) {
+    let mut page = [0u8; 64];
+    let end = refusals::put_end(&mut page, 0, passed, c);
+    io::write_all(STDOUT_FILENO, pages::text(&page, end));
 }
 
 // A proved loop has to end: it counts its turns down, from more cases than a list has.
@@ -54,7 +200,7 @@ fn all_cases(text: &[u8]) {
         let case = replays::next_case(text, cursor, passed);
         let behind = case.cursor;
         if case.kind == 0 {
-            refusals::put_end(passed, behind);
+            say_end(passed, behind);
             return;
         }
         passed = std::num::wrapping_add_u32(passed, 1);

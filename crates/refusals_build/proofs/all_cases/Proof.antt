@@ -18,8 +18,8 @@ loop-holds c = tt
 next-case-requires : tie.Need-next-case-requires Inv-loop μ-loop
 next-case-requires c κs = search needs
 
-put-end-requires : tie.Need-put-end-requires Inv-loop μ-loop
-put-end-requires c κs = search needs
+say-end-requires : tie.Need-say-end-requires Inv-loop μ-loop
+say-end-requires c κs = search needs
 
 returns : tie.Need-returns Inv-loop μ-loop
 returns c = search needs
@@ -51,7 +51,7 @@ all-cases-spec =
     start-requires
     loop-holds
     next-case-requires
-    put-end-requires
+    say-end-requires
     returns
     wrapping-add-u32-requires
     one-case-requires

@@ -1,9 +1,9 @@
--- `refusals_relay::call::close_cut` is safe: each part is as long as it says. Assumes nothing.
+-- `refusals_relay::close_cut` is safe: each part is as long as it says. Assumes nothing.
 use native.Mathlib.Omega.{arith}
 use lib.ListN.{length-take}
 use borrow.Author.Needs.{needs}
-use Rattle.refusals_relay.proofs.call.close_cut.Statement.{statement}
-use Rattle.refusals_relay.proofs.call.close_cut.Tie as tie
+use Rattle.refusals_relay.proofs.close_cut.Statement.{statement}
+use Rattle.refusals_relay.proofs.close_cut.Tie as tie
 
 least-requires : tie.Need-least-requires
 least-requires c κs = search needs

@@ -1,9 +1,9 @@
--- `refusals_search::call::lend` is safe: each part is as long as it says. Assumes nothing.
+-- `refusals_search::lend` is safe: each part is as long as it says. Assumes nothing.
 use native.Mathlib.Omega.{arith}
 use lib.ListN.{length-take}
 use borrow.Author.Needs.{needs}
-use Rattle.refusals_search.proofs.call.lend.Statement.{statement}
-use Rattle.refusals_search.proofs.call.lend.Tie as tie
+use Rattle.refusals_search.proofs.lend.Statement.{statement}
+use Rattle.refusals_search.proofs.lend.Tie as tie
 
 least-requires : tie.Need-least-requires
 least-requires c κs = search needs

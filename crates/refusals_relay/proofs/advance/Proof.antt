@@ -1,9 +1,9 @@
--- `refusals_relay::call::advance` is safe and ends: the state keeps its lengths. Assumes nothing.
+-- `refusals_relay::advance` is safe and ends: the state keeps its lengths. Assumes nothing.
 use lib.ListN.{length}
 use mathlib.Core.Path.{_≡_}
 use borrow.Author.Needs.{needs}
-use Rattle.refusals_relay.proofs.call.advance.Statement.{statement}
-use Rattle.refusals_relay.proofs.call.advance.Tie as tie
+use Rattle.refusals_relay.proofs.advance.Statement.{statement}
+use Rattle.refusals_relay.proofs.advance.Tie as tie
 
 abbrev Inv-loop : tie.InvT-loop
 Inv-loop words₀ floats₀ job steps left₀ words floats left = (length words ≡ length words₀) × (length floats ≡ length floats₀)

@@ -1,9 +1,9 @@
--- `refusals_open::call::in_places` is safe: each part is as long as it says. Assumes nothing.
+-- `refusals_open::in_places` is safe: each part is as long as it says. Assumes nothing.
 use native.Mathlib.Omega.{arith}
 use lib.ListN.{length-take}
 use borrow.Author.Needs.{needs}
-use Rattle.refusals_open.proofs.call.in_places.Statement.{statement}
-use Rattle.refusals_open.proofs.call.in_places.Tie as tie
+use Rattle.refusals_open.proofs.in_places.Statement.{statement}
+use Rattle.refusals_open.proofs.in_places.Tie as tie
 
 least-requires : tie.Need-least-requires
 least-requires c κs = search needs
