@@ -124,8 +124,16 @@ fn replayed(text: &[u8]) -> Tally {
     t
 }
 
+// No case of the kept list differs, so a second one, which is wrong on purpose, shows that what differs is noticed.
 fn main() {
     let mut room = cases::room();
     let n = io::read_full(0, &mut room);
     tallies::print(b"builds compared: ", replayed(&room[..n]));
+    if os::arg_count() > 1 {
+        let m = tallies::read_named(1, &mut room);
+        tallies::print(
+            b"builds of a list that is wrong on purpose: ",
+            replayed(&room[..m]),
+        );
+    }
 }
