@@ -1,0 +1,2 @@
+-- `Square`: what the settled squares are built of.
+pub mod Square
