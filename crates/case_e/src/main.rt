@@ -1,6 +1,33 @@
 // Case E of the settled squares: roots 0 and 3, k 2, query 7 on C's graph; prints each rank, its node and the bits of its distance.
+ghost use mathlib.Core.Path.{_≡_};
+ghost use Rattle.case_e.specs.Square.{lanesOfSquares, graphOfC, rootsOfE, queryOfE};
 use libc::STDOUT_FILENO;
 use rules::SearchAnswer;
+
+// What is searched is said by contracts: the two nodes that are found do not tell every number of it.
+fn lanes() -> [f32; 4]
+    ensures { λ r. ⌜ r ≡ lanesOfSquares ⌝ }
+{
+    [0.0, 1.0, 3.0, 7.0]
+}
+
+fn graph() -> [u32; 8]
+    ensures { λ r. ⌜ r ≡ graphOfC ⌝ }
+{
+    [1, 2, 0, 2, 1, 2, 2, 4]
+}
+
+fn roots() -> [u32; 2]
+    ensures { λ r. ⌜ r ≡ rootsOfE ⌝ }
+{
+    [0, 3]
+}
+
+fn query() -> [f32; 1]
+    ensures { λ r. ⌜ r ≡ queryOfE ⌝ }
+{
+    [7.0]
+}
 
 fn line(rank: u64, node: u32, bits: u32) {
     io::print_decimal(STDOUT_FILENO, rank);
@@ -12,10 +39,10 @@ fn line(rank: u64, node: u32, bits: u32) {
 }
 
 fn main() {
-    let lanes = [0.0f32, 1.0, 3.0, 7.0];
-    let graph = [1u32, 2, 0, 2, 1, 2, 2, 4];
-    let roots = [0u32, 3];
-    let query = [7.0f32];
+    let lanes = lanes();
+    let graph = graph();
+    let roots = roots();
+    let query = query();
     let mut nodes = [0u32; 2];
     let mut bits = [0u32; 2];
     let mut scratch_u = [0u32; 1040];

@@ -1,0 +1,2 @@
+-- `Square`: what square E searches.
+pub mod Square
