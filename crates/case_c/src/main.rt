@@ -22,6 +22,14 @@ fn params_of(index_size: usize) -> SsgParams
         .threshold(0.5)
 }
 
+fn say(name: &[u8], index_size: usize, graph: &[u32]) {
+    let mut page = [0u8; 128];
+    let named = pages::put(&mut page, 0, name);
+    let behind = refusals::put_graph(&mut page, named, graph, index_size);
+    let end = pages::put(&mut page, behind, b"\n");
+    io::write_all(STDOUT_FILENO, pages::text(&page, end));
+}
+
 // The graph of the squares' lanes, in as many places as are lent for it.
 fn square(name: &[u8], index_size: usize, graph: &mut [u32]) {
     let lanes = lanes();
@@ -32,9 +40,7 @@ fn square(name: &[u8], index_size: usize, graph: &mut [u32]) {
     let Answer::Done = answer else {
         return;
     };
-    io::write_all(STDOUT_FILENO, name);
-    refusals::put_graph(graph, index_size);
-    io::write_all(STDOUT_FILENO, b"\n");
+    say(name, index_size, graph);
 }
 
 fn main() {

@@ -1,12 +1,12 @@
-// Names counters: reads a game from stdin, teaches it, looks its queries up, and prints a table for a person and tables for a program.
-ghost use mathlib.Core.Path.{_≡_};
-ghost use lib.ListN.{length};
+// Names counters: reads a game from stdin, teaches it, looks its queries up, and prints a table for a person and tables for a program. A line is started by what is
+// printed, and the last ended by `main`.
 use games::Game;
+use libc::STDOUT_FILENO;
 use rules::Answer;
 use rules::Refusal;
 use rules::SearchAnswer;
 
-mod tables;
+mod rooms;
 
 // The tables: counters by name for a person; ranks, nodes and bits; refusals.
 const PERSON: u32 = 0;
@@ -15,43 +15,87 @@ const RANKS: u32 = 1;
 
 const REFUSALS: u32 = 2;
 
-// Places for the graph of the largest game that is read, 320 counters, and for its build.
-fn graph_room() -> [u32; 20480]
-    ensures { λ r. ⌜ 20480 ≡ length r ⌝ }
-{
-    [0; 20480]
+// Prints some bytes.
+fn say(s: &[u8]) {
+    io::write_all(STDOUT_FILENO, s);
 }
 
-fn words_room() -> [u32; 167936]
-    ensures { λ r. ⌜ 167936 ≡ length r ⌝ }
-{
-    [0; 167936]
+// Prints a number behind some bytes.
+fn put(before: &[u8], n: usize) {
+    say(before);
+    io::print_decimal(STDOUT_FILENO, n as u64);
 }
 
-fn floats_room() -> [f32; 167936]
-    ensures { λ r. ⌜ 167936 ≡ length r ⌝ }
-{
-    [0.0; 167936]
+fn say_refusal(r: Refusal) {
+    let mut page = [0u8; 64];
+    let end = refusals::put_refusal(&mut page, 0, r);
+    say(pages::text(&page, end));
 }
 
-// Places for the lanes of 320 counters and queries.
-fn values_room() -> [f32; 5120]
-    ensures { λ r. ⌜ 5120 ≡ length r ⌝ }
-{
-    [0.0; 5120]
+// Prints the words of a line from a place on.
+fn put_words(text: &[u8], from: usize) {
+    let end = lines::find(text, from, lines::WORDS);
+    if end > text.len() {
+        return;
+    }
+    if from > end {
+        return;
+    }
+    say(&text[from..end]);
 }
 
-// Places for a search.
-fn search_words() -> [u32; 2304]
-    ensures { λ r. ⌜ 2304 ≡ length r ⌝ }
-{
-    [0; 2304]
+// Prints a number between two texts, and then the words of a line from a place on.
+fn put_line(before: &[u8], n: usize, behind: &[u8], text: &[u8], from: usize) {
+    put(before, n);
+    say(behind);
+    put_words(text, from);
 }
 
-fn search_floats() -> [f32; 2304]
-    ensures { λ r. ⌜ 2304 ≡ length r ⌝ }
-{
-    [0.0; 2304]
+// The head of the table for a person.
+fn put_head(text: &[u8], g: Game) {
+    put(b"", g.n);
+    put_line(b" counters of ", g.dimension, b" lanes: ", text, g.title);
+}
+
+// A row of numbers for a program.
+fn put_row(a: usize, b: usize, c: usize, d: usize) {
+    put(b"\n", a);
+    put(b",", b);
+    put(b",", c);
+    put(b",", d);
+}
+
+// The start of a line, counted from 0.
+fn line_start(text: &[u8], line: u32) -> usize {
+    let mut left = line;
+    let mut at: usize = 0;
+    while left > 0 {
+        at = std::num::wrapping_add_usize(lines::find(text, at, lines::LINE), 1);
+        left -= 1;
+    }
+    at
+}
+
+// What is wrong with a file, and where: a line for each of the faults of `games`, in the order of their numbers.
+fn put_fault(text: &[u8], g: Game) {
+    let messages = b"nothing is wrong
+a line starts with lanes, teach, names, roots, counter or query
+a number of at most three places behind the point, or nan, should stand
+a whole number should stand
+the line should end
+1 to 16 lanes are named once, before everything that has lanes
+counters stand before queries
+there is no room for more: 320 counters and queries, 64 roots
+";
+    put_line(
+        b"line ",
+        g.line,
+        b": ",
+        messages,
+        line_start(messages, g.fault),
+    );
+    say(b", where it says: ");
+    put_words(text, g.place);
 }
 
 // One result of a query.
@@ -65,10 +109,10 @@ fn put_result(
     bits: usize,
 ) {
     if table == RANKS {
-        tables::put_row(asked, rank, node, bits);
+        put_row(asked, rank, node, bits);
     }
     if table == PERSON {
-        tables::put_line(b"\n      ", rank, b"  ", text, games::name_of(wholes, node));
+        put_line(b"\n      ", rank, b"  ", text, games::name_of(wholes, node));
     }
 }
 
@@ -94,12 +138,12 @@ fn put_results(
 // A query's refusal: no counter is named.
 fn put_refusal(table: u32, asked: usize, r: Refusal) {
     if table == PERSON {
-        tables::say(b"\n      no name: refused");
-        refusals::put_refusal(r);
+        say(b"\n      no name: refused");
+        say_refusal(r);
     }
     if table == REFUSALS {
         let said = answers::of_refusal(r);
-        tables::put_row(asked, said.refusal, said.first, said.second);
+        put_row(asked, said.refusal, said.first, said.second);
     }
 }
 
@@ -114,8 +158,8 @@ fn look(
     bits: &mut [u32],
 ) -> SearchAnswer {
     let params = g.params;
-    let mut words = search_words();
-    let mut floats = search_floats();
+    let mut words = rooms::search_words();
+    let mut floats = rooms::search_floats();
     search::search(
         g.dimension,
         g.n,
@@ -166,7 +210,7 @@ fn ask(
 // The query itself, in the table for a person.
 fn put_asked(text: &[u8], wholes: &[u32], table: u32, asked: usize, node: usize) {
     if table == PERSON {
-        tables::put_line(
+        put_line(
             b"\n\nquery ",
             asked,
             b"  ",
@@ -222,14 +266,14 @@ fn ask_all(
 // One place of the graph; the first of a row starts its line.
 fn put_edge(row: usize, column: usize, n: usize, to: usize) {
     if column == 0 {
-        refusals::put(b"\n", row);
-        tables::say(b",");
+        put(b"\n", row);
+        say(b",");
     }
     if to < n {
         if column > 0 {
-            tables::say(b" ");
+            say(b" ");
         }
-        refusals::put(b"", to);
+        put(b"", to);
     }
 }
 
@@ -246,20 +290,20 @@ fn put_graph(graph: &[u32], n: usize, index_size: usize) {
 }
 
 fn put_tables(text: &[u8], g: Game, wholes: &[u32], lanes: &[f32], graph: &[u32], queries: &[f32]) {
-    tables::put_head(text, g);
+    put_head(text, g);
     ask_all(text, g, wholes, lanes, graph, queries, PERSON);
-    tables::say(b"\n\nquery,rank,node,bits");
+    say(b"\n\nquery,rank,node,bits");
     ask_all(text, g, wholes, lanes, graph, queries, RANKS);
-    tables::say(b"\n\nquery,refusal,first,second");
+    say(b"\n\nquery,refusal,first,second");
     ask_all(text, g, wholes, lanes, graph, queries, REFUSALS);
-    tables::say(b"\n\nnode,edges");
+    say(b"\n\nnode,edges");
     let params = g.params;
     put_graph(graph, g.n, params.index_size);
 }
 
 fn teach(g: Game, lanes: &[f32], graph: &mut [u32]) -> Answer {
-    let mut words = words_room();
-    let mut floats = floats_room();
+    let mut words = rooms::words_room();
+    let mut floats = rooms::floats_room();
     build::build(
         g.params,
         g.dimension,
@@ -277,15 +321,15 @@ fn play(text: &[u8], g: Game, wholes: &[u32], lanes: &[f32], graph: &mut [u32], 
     match a {
         Answer::Done => put_tables(text, g, wholes, lanes, graph, queries),
         Answer::Refused(r) => {
-            tables::say(b"the game is refused");
-            refusals::put_refusal(r);
+            say(b"the game is refused");
+            say_refusal(r);
         }
     }
 }
 
 // The parts of what was read: the counters' lanes, and the queries' behind them.
 fn with_parts(text: &[u8], g: Game, wholes: &[u32], values: &[f32]) {
-    let mut graph = graph_room();
+    let mut graph = rooms::graph_room();
     let params = g.params;
     let cut = cases::least(cases::area(g.n, g.dimension), values.len());
     let long = cases::least(cases::area(g.n, params.index_size), graph.len());
@@ -301,10 +345,10 @@ fn with_parts(text: &[u8], g: Game, wholes: &[u32], values: &[f32]) {
 
 fn name_counters(text: &[u8]) {
     let mut wholes = [0u32; 388];
-    let mut values = values_room();
+    let mut values = rooms::values_room();
     let g = games::read(text, &mut wholes, &mut values);
     if g.fault != games::FINE {
-        tables::put_fault(text, g);
+        put_fault(text, g);
         return;
     }
     with_parts(text, g, &wholes, &values);
@@ -314,9 +358,9 @@ fn main() {
     let mut room = io::large_buffer();
     let n = io::read_full(0, &mut room);
     if n >= 65536 {
-        tables::say(b"the file is longer than 65,535 bytes\n");
+        say(b"the file is longer than 65,535 bytes\n");
         return;
     }
     name_counters(&room[..n]);
-    tables::say(b"\n");
+    say(b"\n");
 }

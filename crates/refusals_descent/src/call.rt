@@ -145,44 +145,51 @@ pub fn write_state(c: Call, words: &mut [u32], floats: &mut [f32])
     }
 }
 
-fn put_nonzero(words: &[u32]) {
+fn put_nonzero(page: &mut [u8], at: usize, words: &[u32]) -> usize {
     let mut i: usize = 0;
+    let mut place = at;
     while i < words.len() {
         if words[i] != 0 {
-            refusals::put(b" ", i);
-            refusals::put_word(b"=", words[i]);
+            let named = pages::put_number(page, place, b" ", i);
+            place = pages::put_word(page, named, b"=", words[i]);
         }
         i += 1;
     }
+    place
 }
 
 // The list nodes, and each word behind them that is not zero, with its place.
-fn put_state(c: Call, state_u: &[u32]) {
-    let lists = cases::least(cases::area(c.n, c.k), state_u.len());
-    refusals::put_graph(&state_u[..lists], c.k);
-    put_nonzero(&state_u[lists..]);
-}
-
-fn put_counts(c: Call, cost: usize, new: usize) {
-    if c.begins {
-        io::write_all(STDOUT_FILENO, b": done");
-        return;
+fn put_state(page: &mut [u8], at: usize, c: Call, state_u: &[u32]) -> usize {
+    if !c.shown {
+        return at;
     }
-    refusals::put(b": ", cost);
-    refusals::put(b",", new);
+    let lists = cases::least(cases::area(c.n, c.k), state_u.len());
+    let behind = refusals::put_graph(page, at, &state_u[..lists], c.k);
+    put_nonzero(page, behind, &state_u[lists..])
 }
 
-fn said(c: Call, answer: IterateAnswer, state_u: &[u32]) {
+fn put_counts(page: &mut [u8], at: usize, c: Call, cost: usize, new: usize) -> usize {
+    if c.begins {
+        return pages::put(page, at, b": done");
+    }
+    let behind = pages::put_number(page, at, b": ", cost);
+    pages::put_number(page, behind, b",", new)
+}
+
+fn put_answer(
+    page: &mut [u8],
+    at: usize,
+    c: Call,
+    answer: IterateAnswer,
+    state_u: &[u32],
+) -> usize {
     match answer {
         IterateAnswer::Iterated { cost, new } => {
-            put_counts(c, cost, new);
-            if c.shown {
-                put_state(c, state_u);
-            }
+            let behind = put_counts(page, at, c, cost, new);
+            put_state(page, behind, c, state_u)
         }
-        IterateAnswer::Refused(r) => refusals::put_refusal(r),
+        IterateAnswer::Refused(r) => refusals::put_refusal(page, at, r),
     }
-    ;
 }
 
 // Whether the state stands as it was given.
@@ -206,12 +213,20 @@ fn left(answer: IterateAnswer, stands: bool, words: &[u32], floats: &[f32]) -> L
     }
 }
 
-fn put_number(c: Call, number: u32) {
+fn put_number(page: &mut [u8], c: Call, number: u32) -> usize {
     if c.begins {
-        refusals::put_word(b"begin ", number);
-        return;
+        return pages::put_word(page, 0, b"begin ", number);
     }
-    refusals::put_word(b"iterate ", number);
+    pages::put_word(page, 0, b"iterate ", number)
+}
+
+// The line of a call.
+fn say(number: u32, c: Call, answer: IterateAnswer, state_u: &[u32], left: Left) {
+    let mut page = [0u8; 4096];
+    let call = put_number(&mut page, c, number);
+    let behind = put_answer(&mut page, call, c, answer, state_u);
+    let end = refusals::put_left(&mut page, behind, left);
+    io::write_all(STDOUT_FILENO, pages::text(&page, end));
 }
 
 // The answer of a begin, which has no counts.
@@ -281,71 +296,7 @@ pub fn called(
 {
     refusals::fill_scratch(words, floats);
     let answer = asked(c, lanes, draws, state_u, state_f, words, floats);
-    put_number(c, number);
-    said(c, answer, state_u);
     let as_given = stands(state_u, state_f, given_u, given_f);
-    refusals::put_left(left(answer, as_given, words, floats));
-}
-
-// The call on the parts of given places and of our own that are as long as it says.
-fn cut(
-    number: u32,
-    c: Call,
-    lanes: &[f32],
-    draws: &[u32],
-    given_u: &[u32],
-    given_f: &[f32],
-    state_u: &mut [u32],
-    state_f: &mut [f32],
-    words: &mut [u32],
-    floats: &mut [f32],
-) {
-    let lanes_long = cases::least(c.lanes, lanes.len());
-    let draws_long = cases::least(c.draws, draws.len());
-    let given_u_long = cases::least(c.state_u, given_u.len());
-    let given_f_long = cases::least(c.state_f, given_f.len());
-    let state_u_long = cases::least(c.state_u, state_u.len());
-    let state_f_long = cases::least(c.state_f, state_f.len());
-    let words_long = cases::least(c.words, words.len());
-    let floats_long = cases::least(c.floats, floats.len());
-    called(
-        number,
-        c,
-        &lanes[..lanes_long],
-        &draws[..draws_long],
-        &given_u[..given_u_long],
-        &given_f[..given_f_long],
-        &mut state_u[..state_u_long],
-        &mut state_f[..state_f_long],
-        &mut words[..words_long],
-        &mut floats[..floats_long],
-    );
-}
-
-/// A call on given lanes and a state, whose twin is kept, and on scratch of our own; the draws are 6, 7, 8 and so on.
-pub fn lend(
-    number: u32,
-    c: Call,
-    lanes: &[f32],
-    given_u: &[u32],
-    given_f: &[f32],
-    state_u: &mut [u32],
-    state_f: &mut [f32],
-) {
-    let mut draws = [0u32; 513];
-    let mut words = [0u32; 8192];
-    let mut floats = [0.0f32; 8192];
-    refusals::fill_words(&mut draws, 6);
-    cut(
-        number,
-        c,
-        lanes,
-        &draws,
-        given_u,
-        given_f,
-        state_u,
-        state_f,
-        &mut words,
-        &mut floats,
-    );
+    let left = left(answer, as_given, words, floats);
+    say(number, c, answer, state_u, left);
 }

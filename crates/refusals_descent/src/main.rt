@@ -1,8 +1,73 @@
 // Every row of the table that `begin` and `iterate` can give, its edges, several rows at once, and states harmed in a place.
+use call::Call;
 use cases::Cursor;
+use libc::STDOUT_FILENO;
 
 mod call;
 mod given;
+
+// The call on the parts of given places and of our own that are as long as it says.
+fn cut(
+    number: u32,
+    c: Call,
+    lanes: &[f32],
+    draws: &[u32],
+    given_u: &[u32],
+    given_f: &[f32],
+    state_u: &mut [u32],
+    state_f: &mut [f32],
+    words: &mut [u32],
+    floats: &mut [f32],
+) {
+    let lanes_long = cases::least(c.lanes, lanes.len());
+    let draws_long = cases::least(c.draws, draws.len());
+    let given_u_long = cases::least(c.state_u, given_u.len());
+    let given_f_long = cases::least(c.state_f, given_f.len());
+    let state_u_long = cases::least(c.state_u, state_u.len());
+    let state_f_long = cases::least(c.state_f, state_f.len());
+    let words_long = cases::least(c.words, words.len());
+    let floats_long = cases::least(c.floats, floats.len());
+    call::called(
+        number,
+        c,
+        &lanes[..lanes_long],
+        &draws[..draws_long],
+        &given_u[..given_u_long],
+        &given_f[..given_f_long],
+        &mut state_u[..state_u_long],
+        &mut state_f[..state_f_long],
+        &mut words[..words_long],
+        &mut floats[..floats_long],
+    );
+}
+
+// A call on given lanes and a state, whose twin is kept, and on scratch of our own; the draws are 6, 7, 8 and so on.
+fn lend(
+    number: u32,
+    c: Call,
+    lanes: &[f32],
+    given_u: &[u32],
+    given_f: &[f32],
+    state_u: &mut [u32],
+    state_f: &mut [f32],
+) {
+    let mut draws = [0u32; 513];
+    let mut words = [0u32; 8192];
+    let mut floats = [0.0f32; 8192];
+    refusals::fill_words(&mut draws, 6);
+    cut(
+        number,
+        c,
+        lanes,
+        &draws,
+        given_u,
+        given_f,
+        state_u,
+        state_f,
+        &mut words,
+        &mut floats,
+    );
+}
 
 fn one_call(text: &[u8], c: Cursor, number: u32) -> Cursor {
     let read = given::read_call(text, c);
@@ -15,7 +80,7 @@ fn one_call(text: &[u8], c: Cursor, number: u32) -> Cursor {
     let behind = given::harm_floats(text, b, &mut floats);
     let given_u = words;
     let given_f = floats;
-    call::lend(
+    lend(
         number,
         read.call,
         &lanes,
@@ -44,9 +109,19 @@ fn every_call(text: &[u8]) -> Cursor {
     cursor
 }
 
+// How many numbers were read, their sum, and the reader's fault.
+fn say_end(c: Cursor) {
+    let mut page = [0u8; 64];
+    let count = pages::put_word(&mut page, 0, b"numbers: ", c.count);
+    let sum = pages::put_word(&mut page, count, b", sum: ", c.sum);
+    let fault = pages::put_word(&mut page, sum, b", fault: ", c.fault);
+    let end = pages::put(&mut page, fault, b"\n");
+    io::write_all(STDOUT_FILENO, pages::text(&page, end));
+}
+
 // As many nodes as there may be.
-fn most(begins: bool) -> call::Call {
-    call::Call {
+fn most(begins: bool) -> Call {
+    Call {
         begins: begins,
         shown: false,
         dimension: 1,
@@ -122,9 +197,6 @@ fn main() {
     let mut room = cases::room();
     let n = io::read_full(0, &mut room);
     let end = every_call(&room[..n]);
-    refusals::put_word(b"numbers: ", end.count);
-    refusals::put_word(b", sum: ", end.sum);
-    refusals::put_word(b", fault: ", end.fault);
-    io::write_all(1, b"\n");
+    say_end(end);
     most_nodes();
 }

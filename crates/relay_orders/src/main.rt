@@ -158,16 +158,31 @@ fn with_set(
     tally
 }
 
+fn say_word(label: &[u8], word: u32) {
+    io::write_all(STDOUT_FILENO, label);
+    io::print_decimal(STDOUT_FILENO, word as u64);
+}
+
 fn put_lists(nodes: &[u32], dists: &[f32]) {
     let mut i: usize = 0;
     while i < nodes.len() {
         if i >= dists.len() {
             return;
         }
-        refusals::put_word(b" ", nodes[i]);
-        refusals::put_word(b" at ", relays::bits_of(dists[i]));
+        say_word(b" ", nodes[i]);
+        say_word(b" at ", relays::bits_of(dists[i]));
         i += 1;
     }
+}
+
+// The reports of three jobs.
+fn say_reports(reports: &[u32]) {
+    let long = cases::least(6, reports.len());
+    let mut page = [0u8; 64];
+    let named = pages::put(&mut page, 0, b", reports");
+    let listed = refusals::put_words(&mut page, named, &reports[..long]);
+    let end = pages::put(&mut page, listed, b"\n");
+    io::write_all(STDOUT_FILENO, pages::text(&page, end));
 }
 
 // Square I in an order of its 24 moves: the lists, two entries a node, and the reports.
@@ -189,11 +204,9 @@ fn square(name: &[u8], order: &[u32]) {
     );
     io::write_all(STDOUT_FILENO, name);
     put_lists(&nodes, &dists);
-    io::write_all(STDOUT_FILENO, b", reports");
-    refusals::print_words(&reports, 6);
-    io::write_all(STDOUT_FILENO, b"\n");
+    say_reports(&reports);
     if refused != 0 {
-        refusals::put_word(b"refused: ", refused);
+        say_word(b"refused: ", refused);
     }
 }
 
@@ -287,9 +300,9 @@ fn all_sets() -> Tally {
 fn main() {
     squares();
     let t = all_sets();
-    refusals::put_word(b"sets: ", t.sets);
-    refusals::put_word(b"\norders: ", t.orders);
-    refusals::put_word(b"\nthat differ: ", t.differ);
-    refusals::put_word(b"\ncalls refused: ", t.refused);
+    say_word(b"sets: ", t.sets);
+    say_word(b"\norders: ", t.orders);
+    say_word(b"\nthat differ: ", t.differ);
+    say_word(b"\ncalls refused: ", t.refused);
     io::write_all(STDOUT_FILENO, b"\n");
 }

@@ -112,8 +112,26 @@ pub fn with_case(t: Tally, o: Outcome) -> Tally
     }
 }
 
-/// The tally at the end of the list, whose cursor is `c`; a case of another kind is a fault.
-pub fn ended(t: Tally, kind: u32, c: Cursor) -> Tally
+// Puts the tally on a page: what was compared, how many differ, and the numbers read with their sum.
+fn put_tally(page: &mut [u8], at: usize, label: &[u8], t: Tally) -> usize
+    ensures { λ r. ⌜ Puts at (tallyText (now (label .entry)) t) (now (page .entry)) r (now (page .exit)) ⌝ }
+{
+    let compared = pages::put_word(page, at, label, t.compared);
+    let differ = pages::put_word(page, compared, b"\nthat differ: ", t.differ);
+    let count = pages::put_word(page, differ, b"\nnumbers: ", t.cursor.count);
+    let sum = pages::put_word(page, count, b", sum: ", t.cursor.sum);
+    let fault = pages::put_word(page, sum, b", fault: ", t.cursor.fault);
+    pages::put(page, fault, b"\n")
+}
+
+fn say_all(label: &[u8], t: Tally) {
+    let mut page = [0u8; 256];
+    let end = put_tally(&mut page, 0, label, t);
+    io::write_all(STDOUT_FILENO, pages::text(&page, end));
+}
+
+// The tally at the end of the list, whose cursor is `c`; a case of another kind is a fault.
+fn closed(t: Tally, kind: u32, c: Cursor) -> Tally
     ensures { λ r. ⌜ r ≡ closed t kind c ⌝ }
 {
     let mut cursor = c;
@@ -125,6 +143,15 @@ pub fn ended(t: Tally, kind: u32, c: Cursor) -> Tally
         differ: t.differ,
         cursor: cursor,
     }
+}
+
+/// The tally at the end of the list, whose cursor is `c`; a case of another kind is a fault. It is said at once, behind a label.
+pub fn ended(label: &[u8], t: Tally, kind: u32, c: Cursor) -> Tally
+    ensures { λ r. ⌜ r ≡ closed t kind c ⌝ }
+{
+    let all = closed(t, kind, c);
+    say_all(label, all);
+    all
 }
 
 /// Reads the list that an argument names to the front of the room, and answers its length: 0 where there is none, which is said.
@@ -141,16 +168,4 @@ pub fn read_named(i: usize, room: &mut [u8]) -> usize
     let long = io::read_full(fd, room);
     libc::close(fd);
     long
-}
-
-/// Puts the tally on a page: what was compared, how many differ, and the numbers read with their sum.
-pub fn put_tally(page: &mut [u8], at: usize, label: &[u8], t: Tally) -> usize
-    ensures { λ r. ⌜ Puts at (tallyText (now (label .entry)) t) (now (page .entry)) r (now (page .exit)) ⌝ }
-{
-    let compared = pages::put_word(page, at, label, t.compared);
-    let differ = pages::put_word(page, compared, b"\nthat differ: ", t.differ);
-    let count = pages::put_word(page, differ, b"\nnumbers: ", t.cursor.count);
-    let sum = pages::put_word(page, count, b", sum: ", t.cursor.sum);
-    let fault = pages::put_word(page, sum, b", fault: ", t.cursor.fault);
-    pages::put(page, fault, b"\n")
 }

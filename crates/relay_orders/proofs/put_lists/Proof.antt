@@ -17,20 +17,20 @@ loop-holds c = tt
 returns : tie.Need-returns Inv-loop μ-loop
 returns c = search needs
 
-slice-aggregate-put-word : tie.Need-slice-aggregate-put-word Inv-loop μ-loop
-slice-aggregate-put-word c = search needs
+slice-aggregate-say-word : tie.Need-slice-aggregate-say-word Inv-loop μ-loop
+slice-aggregate-say-word c = search needs
 
-mul-put-word : tie.Need-mul-put-word Inv-loop μ-loop
-mul-put-word c = search needs
+mul-say-word : tie.Need-mul-say-word Inv-loop μ-loop
+mul-say-word c = search needs
 
-shared-slice-read-put-word : tie.Need-shared-slice-read-put-word Inv-loop μ-loop
-shared-slice-read-put-word c = search needs
+shared-slice-read-say-word : tie.Need-shared-slice-read-say-word Inv-loop μ-loop
+shared-slice-read-say-word c = search needs
 
-put-word-requires : tie.Need-put-word-requires Inv-loop μ-loop
-put-word-requires c κs = search needs
+say-word-requires : tie.Need-say-word-requires Inv-loop μ-loop
+say-word-requires c κs = search needs
 
-slice-aggregate-put-word-2 : tie.Need-slice-aggregate-put-word-2 Inv-loop μ-loop
-slice-aggregate-put-word-2 c = search needs
+slice-aggregate-say-word-2 : tie.Need-slice-aggregate-say-word-2 Inv-loop μ-loop
+slice-aggregate-say-word-2 c = search needs
 
 mul-bits-of : tie.Need-mul-bits-of Inv-loop μ-loop
 mul-bits-of c = search needs
@@ -41,8 +41,8 @@ shared-slice-read-bits-of c = search needs
 bits-of-requires : tie.Need-bits-of-requires Inv-loop μ-loop
 bits-of-requires c κs = search needs
 
-put-word-requires-2 : tie.Need-put-word-requires-2 Inv-loop μ-loop
-put-word-requires-2 c κs = search needs
+say-word-requires-2 : tie.Need-say-word-requires-2 Inv-loop μ-loop
+say-word-requires-2 c κs = search needs
 
 add-i : tie.Need-add-i Inv-loop μ-loop
 add-i c = search needs
@@ -64,15 +64,15 @@ put-lists-spec =
     μ-loop
     loop-holds
     returns
-    slice-aggregate-put-word
-    mul-put-word
-    shared-slice-read-put-word
-    put-word-requires
-    slice-aggregate-put-word-2
+    slice-aggregate-say-word
+    mul-say-word
+    shared-slice-read-say-word
+    say-word-requires
+    slice-aggregate-say-word-2
     mul-bits-of
     shared-slice-read-bits-of
     bits-of-requires
-    put-word-requires-2
+    say-word-requires-2
     add-i
     loop-less
     loop-again

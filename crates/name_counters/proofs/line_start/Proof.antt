@@ -1,7 +1,7 @@
--- `name_counters::tables::line_start` is safe and ends. Assumes nothing.
+-- `name_counters::line_start` is safe and ends. Assumes nothing.
 use borrow.Author.Needs.{needs}
-use Rattle.name_counters.proofs.tables.line_start.Statement.{statement}
-use Rattle.name_counters.proofs.tables.line_start.Tie as tie
+use Rattle.name_counters.proofs.line_start.Statement.{statement}
+use Rattle.name_counters.proofs.line_start.Tie as tie
 
 abbrev Inv-loop : tie.InvT-loop
 Inv-loop text line left₀ at₀ left at = Unit {0}

@@ -1,9 +1,9 @@
--- `refusals_descent::call::cut` is safe: each part is as long as it says. Assumes nothing.
+-- `refusals_descent::cut` is safe: each part is as long as it says. Assumes nothing.
 use native.Mathlib.Omega.{arith}
 use lib.ListN.{length-take}
 use borrow.Author.Needs.{needs}
-use Rattle.refusals_descent.proofs.call.cut.Statement.{statement}
-use Rattle.refusals_descent.proofs.call.cut.Tie as tie
+use Rattle.refusals_descent.proofs.cut.Statement.{statement}
+use Rattle.refusals_descent.proofs.cut.Tie as tie
 
 least-requires : tie.Need-least-requires
 least-requires c κs = search needs
