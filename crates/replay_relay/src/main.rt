@@ -50,23 +50,34 @@ fn beside(text: &[u8], o: Outcome, nodes: &[u32], dists: &[f32]) -> Outcome {
     tallies::and(q, b.at == dists.len(), tallies::BITS)
 }
 
+// A list that our places have no room for; the list's entries are passed.
+fn outside(text: &[u8], o: Outcome, long: usize) -> Outcome {
+    let cursor = cases::pass(text, o.cursor, cases::area(2, long));
+    let p = Outcome {
+        differs: o.differs,
+        cursor: cursor,
+    };
+    tallies::and(p, false, tallies::LENGTH)
+}
+
 // A list in its room, of as many entries as the list of answers says.
 fn in_room(
     text: &[u8],
     o: Outcome,
     from: usize,
-    to: usize,
+    long: usize,
     words: &[u32],
     floats: &[f32],
 ) -> Outcome {
+    let to = std::num::wrapping_add_usize(from, long);
     if to < from {
-        return tallies::and(o, false, tallies::LENGTH);
+        return outside(text, o, long);
     }
     if words.len() < to {
-        return tallies::and(o, false, tallies::LENGTH);
+        return outside(text, o, long);
     }
     if floats.len() < to {
-        return tallies::and(o, false, tallies::LENGTH);
+        return outside(text, o, long);
     }
     beside(text, o, &words[from..to], &floats[from..to])
 }
@@ -90,8 +101,7 @@ fn left(text: &[u8], o: Outcome, s: Shape, node: usize, words: &[u32], floats: &
     let ours = word_at(words, relays::length_at(s.n, s.k, node));
     let q = tallies::and(p, ours == len.value as u32, tallies::LENGTH);
     let from = relays::list_at(s.k, node);
-    let to = std::num::wrapping_add_usize(from, len.value);
-    in_room(text, q, from, to, words, floats)
+    in_room(text, q, from, len.value, words, floats)
 }
 
 // The node whose list a job's last step concerned: u in its first four steps, v in its last four.
