@@ -388,8 +388,16 @@ fn replayed(text: &[u8]) -> Tally {
     t
 }
 
+// The Rust's list has nothing that differs, so a second one, wrong on purpose, shows that what differs is said.
 fn main() {
     let mut room = cases::room();
     let n = io::read_full(0, &mut room);
     tallies::print(b"descents compared: ", replayed(&room[..n]));
+    if os::arg_count() > 1 {
+        let m = tallies::read_named(1, &mut room);
+        tallies::print(
+            b"descents of a list that is wrong on purpose: ",
+            replayed(&room[..m]),
+        );
+    }
 }
