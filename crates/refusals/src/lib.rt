@@ -1,7 +1,7 @@
 // The common ground of the refusal tests: a case's numbers and runs, junk in lent places, what became of it after a call, and the parts of a line.
 ghost use mathlib.Core.Path.{_≡_};
 ghost use Prim.Native.Nat.{_≤_};
-ghost use lib.ListN.{length};
+ghost use lib.ListN.{length, take};
 ghost use Rattle.cases.specs.Text.{wordsAt, behind};
 ghost use Rattle.pages.specs.Page.{labelled, Puts};
 ghost use Rattle.refusals.specs.Texts.{beforePlace, nextColumn, refusalText, graphText, leftText, wordsText, endText};
@@ -248,8 +248,8 @@ pub fn put_left(page: &mut [u8], at: usize, l: Left) -> usize
     }
 }
 
-/// Puts words on a page, each behind a space.
-pub fn put_words(page: &mut [u8], at: usize, words: &[u32]) -> usize
+// Puts words on a page, each behind a space.
+fn put_all(page: &mut [u8], at: usize, words: &[u32]) -> usize
     ensures { λ e. ⌜ Puts at (wordsText (now (words .entry))) (now (page .entry)) e (now (page .exit)) ⌝ }
 {
     let mut i: usize = 0;
@@ -259,6 +259,14 @@ pub fn put_words(page: &mut [u8], at: usize, words: &[u32]) -> usize
         i += 1;
     }
     place
+}
+
+/// Puts the first `count` words on a page, each behind a space.
+pub fn put_words(page: &mut [u8], at: usize, words: &[u32], count: usize) -> usize
+    ensures { λ e. ⌜ Puts at (wordsText (take count (now (words .entry)))) (now (page .entry)) e (now (page .exit)) ⌝ }
+{
+    let long = cases::least(count, words.len());
+    put_all(page, at, &words[..long])
 }
 
 /// Puts on a page how many cases were passed, and the reader's fault.

@@ -196,9 +196,8 @@ fn put_closed(
 ) -> usize {
     match answer {
         Answer::Done => {
-            let long = cases::least(8, reports.len());
             let named = pages::put(page, at, b": reports");
-            let listed = refusals::put_words(page, named, &reports[..long]);
+            let listed = refusals::put_words(page, named, reports, 8);
             refusals::put_left(page, listed, left_done(reports))
         }
         Answer::Refused(r) => {

@@ -41,14 +41,12 @@ fn put_results(
     nodes: &[u32],
     bits: &[u32],
 ) -> usize {
-    let nodes_long = cases::least(m, nodes.len());
-    let bits_long = cases::least(m, bits.len());
     let found = pages::put_number(page, at, b": ", m);
     let taken = pages::put_number(page, found, b",", takings);
     let named = pages::put(page, taken, b", nodes");
-    let listed = refusals::put_words(page, named, &nodes[..nodes_long]);
+    let listed = refusals::put_words(page, named, nodes, m);
     let away = pages::put(page, listed, b" at");
-    refusals::put_words(page, away, &bits[..bits_long])
+    refusals::put_words(page, away, bits, m)
 }
 
 // The rest of a call's line: the answer with its results, or the refusal's number and places; and what is left.

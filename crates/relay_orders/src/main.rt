@@ -177,10 +177,9 @@ fn put_lists(nodes: &[u32], dists: &[f32]) {
 
 // The reports of three jobs.
 fn say_reports(reports: &[u32]) {
-    let long = cases::least(6, reports.len());
     let mut page = [0u8; 64];
     let named = pages::put(&mut page, 0, b", reports");
-    let listed = refusals::put_words(&mut page, named, &reports[..long]);
+    let listed = refusals::put_words(&mut page, named, reports, 6);
     let end = pages::put(&mut page, listed, b"\n");
     io::write_all(STDOUT_FILENO, pages::text(&page, end));
 }

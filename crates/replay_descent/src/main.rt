@@ -4,7 +4,6 @@ use cases::Size;
 use rules::Answer;
 use rules::IterateAnswer;
 use tallies::Outcome;
-use tallies::Tally;
 
 // The kinds of a descent and of a single iteration in a list.
 const DESCENT: u32 = 3;
@@ -43,14 +42,6 @@ fn read_shape(text: &[u8], c: Cursor) -> Shape {
     }
 }
 
-// What differs so far, with another place in the list.
-fn at(o: Outcome, c: Cursor) -> Outcome {
-    Outcome {
-        differs: o.differs,
-        cursor: c,
-    }
-}
-
 // The state beside the list's, whose words and floats are given.
 fn compared(
     o: Outcome,
@@ -77,7 +68,7 @@ fn beside_read(
     floats: &mut [f32],
 ) -> Outcome {
     let cursor = states::read_state(text, o.cursor, s.n, s.k, words, floats);
-    compared(at(o, cursor), s, state_u, state_f, words, floats)
+    compared(tallies::at(o, cursor), s, state_u, state_f, words, floats)
 }
 
 // Places as long as the state's, for the list's.
@@ -100,7 +91,7 @@ fn beside(text: &[u8], o: Outcome, s: Shape, state_u: &[u32], state_f: &[f32]) -
 // A refused call: the state that the list has for it is passed.
 fn refused(text: &[u8], o: Outcome, c: Cursor, s: Shape) -> Outcome {
     tallies::and(
-        at(o, kinds::pass_state(text, c, s.n, s.k)),
+        tallies::at(o, kinds::pass_state(text, c, s.n, s.k)),
         false,
         tallies::REFUSED,
     )
@@ -110,7 +101,11 @@ fn refused(text: &[u8], o: Outcome, c: Cursor, s: Shape) -> Outcome {
 fn counts(text: &[u8], o: Outcome, cost: usize, new: usize) -> Outcome {
     let a = cases::read_word(text, o.cursor);
     let b = cases::read_word(text, a.cursor);
-    let p = tallies::and(at(o, b.cursor), a.value as usize == cost, tallies::COUNT);
+    let p = tallies::and(
+        tallies::at(o, b.cursor),
+        a.value as usize == cost,
+        tallies::COUNT,
+    );
     tallies::and(p, b.value as usize == new, tallies::COUNT)
 }
 
@@ -371,33 +366,35 @@ fn is_ours(kind: u32) -> bool {
 }
 
 // A proved loop has to end: it counts its turns down, from more cases than a list has.
-fn replayed(text: &[u8]) -> Tally {
+fn replayed(label: &[u8], text: &[u8]) {
     let mut left: u32 = 65536;
     let mut t = tallies::none();
     while left > 0 {
         let case = replays::next_case(text, t.cursor, t.compared);
         let cursor = case.cursor;
         if !is_ours(case.kind) {
-            return tallies::ended(t, case.kind, cursor);
+            tallies::ended(label, t, case.kind, cursor);
+            return;
         }
         let o = one_case(text, case.kind, cursor);
         let next = tallies::with_case(t, o);
         t = next;
         left -= 1;
     }
-    t
 }
 
-// The Rust's list has nothing that differs, so a second one, wrong on purpose, shows that what differs is said.
+// The Rust's list has nothing that differs, so the lists that arguments name, wrong on purpose, show that what differs is said.
+fn replay_named(i: usize) {
+    let mut room = cases::room();
+    let n = tallies::read_named(i, &mut room);
+    replayed(b"descents of a list that is wrong on purpose: ", &room[..n]);
+}
+
 fn main() {
     let mut room = cases::room();
     let n = io::read_full(0, &mut room);
-    tallies::print(b"descents compared: ", replayed(&room[..n]));
-    if os::arg_count() > 1 {
-        let m = tallies::read_named(1, &mut room);
-        tallies::print(
-            b"descents of a list that is wrong on purpose: ",
-            replayed(&room[..m]),
-        );
+    replayed(b"descents compared: ", &room[..n]);
+    for i in 1..os::arg_count() {
+        replay_named(i);
     }
 }

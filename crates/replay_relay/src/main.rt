@@ -2,7 +2,6 @@
 use cases::Cursor;
 use rules::Answer;
 use tallies::Outcome;
-use tallies::Tally;
 
 // The kind of a relay in a list.
 const RELAY: u32 = 5;
@@ -41,22 +40,14 @@ fn done(answer: Answer) -> bool {
 fn beside(text: &[u8], o: Outcome, nodes: &[u32], dists: &[f32]) -> Outcome {
     let a = replays::compare(text, o.cursor, nodes);
     let b = relays::compare_bits(text, a.cursor, dists);
-    let cursor = b.cursor;
-    let p = Outcome {
-        differs: o.differs,
-        cursor: cursor,
-    };
+    let p = tallies::at(o, b.cursor);
     let q = tallies::and(p, a.at == nodes.len(), tallies::NODES);
     tallies::and(q, b.at == dists.len(), tallies::BITS)
 }
 
 // A list that our places have no room for; the list's entries are passed.
 fn outside(text: &[u8], o: Outcome, long: usize) -> Outcome {
-    let cursor = cases::pass(text, o.cursor, cases::area(2, long));
-    let p = Outcome {
-        differs: o.differs,
-        cursor: cursor,
-    };
+    let p = tallies::at(o, cases::pass(text, o.cursor, cases::area(2, long)));
     tallies::and(p, false, tallies::LENGTH)
 }
 
@@ -93,11 +84,7 @@ fn word_at(words: &[u32], at: usize) -> u32 {
 // The list of node `node` as a move left it, beside the list's.
 fn left(text: &[u8], o: Outcome, s: Shape, node: usize, words: &[u32], floats: &[f32]) -> Outcome {
     let len = cases::read_size(text, o.cursor, 128);
-    let cursor = len.cursor;
-    let p = Outcome {
-        differs: o.differs,
-        cursor: cursor,
-    };
+    let p = tallies::at(o, len.cursor);
     let ours = word_at(words, relays::length_at(s.n, s.k, node));
     let q = tallies::and(p, ours == len.value as u32, tallies::LENGTH);
     let from = relays::list_at(s.k, node);
@@ -153,11 +140,7 @@ fn run(
 fn reported(text: &[u8], o: Outcome, count: usize, reports: &[u32]) -> Outcome {
     let long = cases::least(count, reports.len());
     let a = replays::compare(text, o.cursor, &reports[..long]);
-    let cursor = a.cursor;
-    let p = Outcome {
-        differs: o.differs,
-        cursor: cursor,
-    };
+    let p = tallies::at(o, a.cursor);
     let q = tallies::and(p, a.at == long, tallies::COUNT);
     tallies::and(q, replays::all_words(reports, long, JUNK), tallies::BEYOND)
 }
@@ -248,11 +231,7 @@ fn ordered(
     words: &mut [u32],
     floats: &mut [f32],
 ) -> Outcome {
-    let cursor = cases::read_words(text, o.cursor, order);
-    let p = Outcome {
-        differs: o.differs,
-        cursor: cursor,
-    };
+    let p = tallies::at(o, cases::read_words(text, o.cursor, order));
     let q = run(text, p, s, jobs, order, words, floats);
     close_in(text, q, s, jobs.len(), words, floats)
 }
@@ -267,11 +246,7 @@ fn moves(
 ) -> Outcome {
     let count = cases::read_size(text, o.cursor, 512);
     let long = count.value;
-    let cursor = count.cursor;
-    let p = Outcome {
-        differs: o.differs,
-        cursor: cursor,
-    };
+    let p = tallies::at(o, count.cursor);
     let mut order = [0u32; 512];
     ordered(text, p, s, jobs, &mut order[..long], words, floats)
 }
@@ -379,33 +354,35 @@ fn one_case(text: &[u8], c: Cursor) -> Outcome {
 }
 
 // A proved loop has to end: it counts its turns down, from more cases than a list has.
-fn replayed(text: &[u8]) -> Tally {
+fn replayed(label: &[u8], text: &[u8]) {
     let mut turns: u32 = 65536;
     let mut t = tallies::none();
     while turns > 0 {
         let case = replays::next_case(text, t.cursor, t.compared);
         let cursor = case.cursor;
         if case.kind != RELAY {
-            return tallies::ended(t, case.kind, cursor);
+            tallies::ended(label, t, case.kind, cursor);
+            return;
         }
         let o = one_case(text, cursor);
         let next = tallies::with_case(t, o);
         t = next;
         turns -= 1;
     }
-    t
 }
 
-// The Rust's list has nothing that differs, so a second one, wrong on purpose, shows that what differs is said.
+// The Rust's list has nothing that differs, so the lists that arguments name, wrong on purpose, show that what differs is said.
+fn replay_named(i: usize) {
+    let mut room = cases::room();
+    let n = tallies::read_named(i, &mut room);
+    replayed(b"relays of a list that is wrong on purpose: ", &room[..n]);
+}
+
 fn main() {
     let mut room = cases::room();
     let n = io::read_full(0, &mut room);
-    tallies::print(b"relays compared: ", replayed(&room[..n]));
-    if os::arg_count() > 1 {
-        let m = tallies::read_named(1, &mut room);
-        tallies::print(
-            b"relays of a list that is wrong on purpose: ",
-            replayed(&room[..m]),
-        );
+    replayed(b"relays compared: ", &room[..n]);
+    for i in 1..os::arg_count() {
+        replay_named(i);
     }
 }

@@ -2,7 +2,6 @@
 use cases::Cursor;
 use rules::SearchAnswer;
 use tallies::Outcome;
-use tallies::Tally;
 
 // The kind of a search in a list.
 const SEARCH: u32 = 2;
@@ -173,33 +172,35 @@ fn one_case(text: &[u8], c: Cursor) -> Outcome {
 }
 
 // A proved loop has to end: it counts its turns down, from more cases than a list has.
-fn replayed(text: &[u8]) -> Tally {
+fn replayed(label: &[u8], text: &[u8]) {
     let mut turns: u32 = 65536;
     let mut t = tallies::none();
     while turns > 0 {
         let case = replays::next_case(text, t.cursor, t.compared);
         let cursor = case.cursor;
         if case.kind != SEARCH {
-            return tallies::ended(t, case.kind, cursor);
+            tallies::ended(label, t, case.kind, cursor);
+            return;
         }
         let o = one_case(text, cursor);
         let next = tallies::with_case(t, o);
         t = next;
         turns -= 1;
     }
-    t
 }
 
-// No case of the kept list differs, so a second one, which is wrong on purpose, shows that what differs is noticed.
+// The Rust's list has nothing that differs, so the lists that arguments name, wrong on purpose, show that what differs is said.
+fn replay_named(i: usize) {
+    let mut room = cases::room();
+    let n = tallies::read_named(i, &mut room);
+    replayed(b"searches of a list that is wrong on purpose: ", &room[..n]);
+}
+
 fn main() {
     let mut room = cases::room();
     let n = io::read_full(0, &mut room);
-    tallies::print(b"searches compared: ", replayed(&room[..n]));
-    if os::arg_count() > 1 {
-        let m = tallies::read_named(1, &mut room);
-        tallies::print(
-            b"searches of a list that is wrong on purpose: ",
-            replayed(&room[..m]),
-        );
+    replayed(b"searches compared: ", &room[..n]);
+    for i in 1..os::arg_count() {
+        replay_named(i);
     }
 }

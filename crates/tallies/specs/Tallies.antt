@@ -14,6 +14,9 @@ use Rattle.tallies.specs.declared.Tally.{Tally}
 unfoldable pub noCase : Tally
 noCase = record { compared = 0; differ = 0; cursor = first }
 
+abbrev pub movedTo : Outcome → Cursor → Outcome
+movedTo o c = record { differs = o .differs; cursor = c }
+
 -- What differed first is kept
 unfoldable pub joined : Outcome → Bool → ℕ → Outcome
 joined o fine differs =

@@ -2,7 +2,7 @@
 ghost use mathlib.Core.Path.{_≡_};
 ghost use Rattle.io.specs.Counts.{Counts};
 ghost use Rattle.pages.specs.Page.{Puts};
-ghost use Rattle.tallies.specs.Tallies.{noCase, joined, scratched, counted, closed, tallyText};
+ghost use Rattle.tallies.specs.Tallies.{noCase, movedTo, joined, scratched, counted, closed, tallyText};
 use cases::Cursor;
 use libc::STDOUT_FILENO;
 
@@ -46,6 +46,16 @@ pub fn none() -> Tally
         compared: 0,
         differ: 0,
         cursor: cases::start(),
+    }
+}
+
+/// What differs so far, with another place in the list.
+pub fn at(o: Outcome, c: Cursor) -> Outcome
+    ensures { λ r. ⌜ r ≡ movedTo o c ⌝ }
+{
+    Outcome {
+        differs: o.differs,
+        cursor: c,
     }
 }
 
