@@ -145,14 +145,19 @@ pub fn write_state(c: Call, words: &mut [u32], floats: &mut [f32])
     }
 }
 
+fn put_place(page: &mut [u8], at: usize, i: usize, word: u32) -> usize {
+    if word == 0 {
+        return at;
+    }
+    let named = pages::put_number(page, at, b" ", i);
+    pages::put_word(page, named, b"=", word)
+}
+
 fn put_nonzero(page: &mut [u8], at: usize, words: &[u32]) -> usize {
     let mut i: usize = 0;
     let mut place = at;
     while i < words.len() {
-        if words[i] != 0 {
-            let named = pages::put_number(page, place, b" ", i);
-            place = pages::put_word(page, named, b"=", words[i]);
-        }
+        place = put_place(page, place, i, words[i]);
         i += 1;
     }
     place

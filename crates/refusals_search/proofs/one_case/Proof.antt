@@ -35,20 +35,14 @@ slice-aggregate-read-lanes-2 c = search needs
 read-lanes-requires-2 : tie.Need-read-lanes-requires-2
 read-lanes-requires-2 c κs = search needs
 
-slice-aggregate-put-word : tie.Need-slice-aggregate-put-word
-slice-aggregate-put-word c = search needs
-
-put-word-requires : tie.Need-put-word-requires
-put-word-requires c κs = search needs
-
 call-of-requires : tie.Need-call-of-requires
 call-of-requires c κs = search needs
 
 array-share-prefix-lanes : tie.Need-array-share-prefix-lanes
-array-share-prefix-lanes c = c .before .before .before .before .before .before .before .before .before .before .before .before .before .read-lanes .ensures .0
+array-share-prefix-lanes c = c .before .before .before .before .before .before .before .before .before .before .before .read-lanes .ensures .0
 
 slice-aggregate-lend : tie.Need-slice-aggregate-lend
-slice-aggregate-lend c = simp length-take (omega (arith, c .before .before .before .before .before .before .before .before .before .before .before .before .before .before .read-lanes .ensures .0))
+slice-aggregate-lend c = simp length-take (omega (arith, c .before .before .before .before .before .before .before .before .before .before .before .before .read-lanes .ensures .0))
 
 array-share-prefix-graph : tie.Need-array-share-prefix-graph
 array-share-prefix-graph c = search needs
@@ -88,8 +82,6 @@ one-case-spec =
     read-run-requires-2
     slice-aggregate-read-lanes-2
     read-lanes-requires-2
-    slice-aggregate-put-word
-    put-word-requires
     call-of-requires
     array-share-prefix-lanes
     slice-aggregate-lend

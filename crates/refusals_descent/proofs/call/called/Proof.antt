@@ -10,20 +10,14 @@ fill-scratch-requires c κs = search needs
 asked-requires : tie.Need-asked-requires
 asked-requires c κs = search needs
 
-put-number-requires : tie.Need-put-number-requires
-put-number-requires c κs = search needs
-
-said-requires : tie.Need-said-requires
-said-requires c κs = search needs
-
 stands-requires : tie.Need-stands-requires
 stands-requires c κs = search needs
 
 left-requires : tie.Need-left-requires
 left-requires c κs = search needs
 
-put-left-requires : tie.Need-put-left-requires
-put-left-requires c κs = search needs
+say-requires : tie.Need-say-requires
+say-requires c κs = search needs
 
 same-length : tie.Need-same-length
 same-length c = search needs
@@ -39,8 +33,8 @@ same-length-4 c = search needs
 
 returns : tie.Need-returns
 returns c =
-    let scratch = c .before .before .before .before .before .before .before .before .before .before .before .before .before .before .before .before .before .before .before .before .before .before .before .before .before .before .before .fill-scratch .ensures in
-    called-made _ _ _ _ _ _ _ _ _ _ _ _ _ _ (scratch .0) (scratch .1) (c .before .before .before .before .before .before .before .before .before .before .before .before .before .before .before .before .before .before .asked .ensures)
+    let scratch = c .before .before .before .before .before .before .before .before .before .before .before .before .before .before .before .before .before .before .before .before .before .before .before .before .before .fill-scratch .ensures in
+    called-made _ _ _ _ _ _ _ _ _ _ _ _ _ _ (scratch .0) (scratch .1) (c .before .before .before .before .before .before .before .before .before .before .before .before .before .before .before .before .asked .ensures)
 
 pub called-spec : {M : Type 1} → statement M
 called-spec =
@@ -48,11 +42,9 @@ called-spec =
     (tie.spec
     fill-scratch-requires
     asked-requires
-    put-number-requires
-    said-requires
     stands-requires
     left-requires
-    put-left-requires
+    say-requires
     same-length
     same-length-2
     same-length-3

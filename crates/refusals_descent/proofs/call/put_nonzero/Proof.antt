@@ -1,4 +1,5 @@
 -- `refusals_descent::call::put_nonzero` is safe and ends. Assumes nothing.
+use mathlib.Core.Path.{_≡_, refl, _∙_}
 use Prim.Native.Nat.{_-_}
 use lib.ListN.{length}
 use borrow.Author.Needs.{needs}
@@ -6,37 +7,22 @@ use Rattle.refusals_descent.proofs.call.put_nonzero.Statement.{statemen
 use Rattle.refusals_descent.proofs.call.put_nonzero.Tie as tie
 
 abbrev Inv-loop : tie.InvT-loop
-Inv-loop words i₀ t3 t4 i = Unit {0}
+Inv-loop page₀ at words i₀ place₀ page i place = length page ≡ length page₀
 
 abbrev μ-loop : tie.MeasureT-loop
-μ-loop words i₀ t3 t4 i = length words - i
+μ-loop page₀ at words i₀ place₀ page i place = length words - i
 
 loop-holds : tie.Need-loop-holds Inv-loop μ-loop
-loop-holds c = tt
+loop-holds c = refl
 
-mul-if1 : tie.Need-mul-if1 Inv-loop μ-loop
-mul-if1 c = search needs
+mul-put-place : tie.Need-mul-put-place Inv-loop μ-loop
+mul-put-place c = search needs
 
-shared-slice-read-if1 : tie.Need-shared-slice-read-if1 Inv-loop μ-loop
-shared-slice-read-if1 c = search needs
+shared-slice-read-put-place : tie.Need-shared-slice-read-put-place Inv-loop μ-loop
+shared-slice-read-put-place c = search needs
 
-slice-aggregate-put : tie.Need-slice-aggregate-put Inv-loop μ-loop
-slice-aggregate-put c = search needs
-
-put-requires : tie.Need-put-requires Inv-loop μ-loop
-put-requires c κs = search needs
-
-slice-aggregate-put-word : tie.Need-slice-aggregate-put-word Inv-loop μ-loop
-slice-aggregate-put-word c = search needs
-
-mul-put-word : tie.Need-mul-put-word Inv-loop μ-loop
-mul-put-word c = search needs
-
-shared-slice-read-put-word : tie.Need-shared-slice-read-put-word Inv-loop μ-loop
-shared-slice-read-put-word c = search needs
-
-put-word-requires : tie.Need-put-word-requires Inv-loop μ-loop
-put-word-requires c κs = search needs
+put-place-requires : tie.Need-put-place-requires Inv-loop μ-loop
+put-place-requires c κs = search needs
 
 add-i : tie.Need-add-i Inv-loop μ-loop
 add-i c = search needs
@@ -45,7 +31,10 @@ loop-less : tie.Need-loop-less Inv-loop μ-loop
 loop-less c = search needs
 
 loop-again : tie.Need-loop-again Inv-loop μ-loop
-loop-again c = tt
+loop-again c = search needs
+
+same-length : tie.Need-same-length Inv-loop μ-loop
+same-length c = c .before .loop .inv
 
 returns : tie.Need-returns Inv-loop μ-loop
 returns c = search needs
@@ -57,15 +46,11 @@ put-nonzero-spec =
     Inv-loop
     μ-loop
     loop-holds
-    mul-if1
-    shared-slice-read-if1
-    slice-aggregate-put
-    put-requires
-    slice-aggregate-put-word
-    mul-put-word
-    shared-slice-read-put-word
-    put-word-requires
+    mul-put-place
+    shared-slice-read-put-place
+    put-place-requires
     add-i
     loop-less
     loop-again
+    same-length
     returns)

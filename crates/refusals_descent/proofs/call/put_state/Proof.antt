@@ -5,6 +5,9 @@ use borrow.Author.Needs.{needs}
 use Rattle.refusals_descent.proofs.call.put_state.Statement.{statement}
 use Rattle.refusals_descent.proofs.call.put_state.Tie as tie
 
+returns : tie.Need-returns
+returns c = search needs
+
 area-requires : tie.Need-area-requires
 area-requires c κs = search needs
 
@@ -32,13 +35,17 @@ part-put-nonzero-end c = search needs
 put-nonzero-requires : tie.Need-put-nonzero-requires
 put-nonzero-requires c κs = search needs
 
-returns : tie.Need-returns
-returns c = search needs
+same-length : tie.Need-same-length
+same-length c = search needs
+
+returns-2 : tie.Need-returns-2
+returns-2 c = search needs
 
 pub put-state-spec : {M : Type 1} → statement M
 put-state-spec =
     tie.close
     (tie.spec
+    returns
     area-requires
     least-requires
     slice-aggregate-put-graph
@@ -48,4 +55,5 @@ put-state-spec =
     part-put-nonzero-start
     part-put-nonzero-end
     put-nonzero-requires
-    returns)
+    same-length
+    returns-2)
