@@ -90,23 +90,17 @@ fn beside(text: &[u8], o: Outcome, s: Shape, state_u: &[u32], state_f: &[f32]) -
 
 // A refused call: the state that the list has for it is passed.
 fn refused(text: &[u8], o: Outcome, c: Cursor, s: Shape) -> Outcome {
-    tallies::and(
-        tallies::at(o, kinds::pass_state(text, c, s.n, s.k)),
-        false,
-        tallies::REFUSED,
-    )
+    let p = tallies::at(o, kinds::pass_state(text, c, s.n, s.k));
+    tallies::and(p, false, tallies::REFUSED)
 }
 
 // An iteration's cost and total of new, beside the list's.
 fn counts(text: &[u8], o: Outcome, cost: usize, new: usize) -> Outcome {
     let a = cases::read_word(text, o.cursor);
     let b = cases::read_word(text, a.cursor);
-    let p = tallies::and(
-        tallies::at(o, b.cursor),
-        a.value as usize == cost,
-        tallies::COUNT,
-    );
-    tallies::and(p, b.value as usize == new, tallies::COUNT)
+    let p = tallies::at(o, b.cursor);
+    let q = tallies::and(p, a.value as usize == cost, tallies::COUNT);
+    tallies::and(q, b.value as usize == new, tallies::COUNT)
 }
 
 // What an iteration answered and left, beside the list's from the cursor of `o` on.
@@ -383,6 +377,12 @@ fn replayed(label: &[u8], text: &[u8]) {
     }
 }
 
+fn replay_input() {
+    let mut room = cases::room();
+    let n = io::read_full(0, &mut room);
+    replayed(b"descents compared: ", &room[..n]);
+}
+
 // The Rust's list has nothing that differs, so the lists that arguments name, wrong on purpose, show that what differs is said.
 fn replay_named(i: usize) {
     let mut room = cases::room();
@@ -391,9 +391,7 @@ fn replay_named(i: usize) {
 }
 
 fn main() {
-    let mut room = cases::room();
-    let n = io::read_full(0, &mut room);
-    replayed(b"descents compared: ", &room[..n]);
+    replay_input();
     for i in 1..os::arg_count() {
         replay_named(i);
     }

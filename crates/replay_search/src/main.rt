@@ -189,6 +189,12 @@ fn replayed(label: &[u8], text: &[u8]) {
     }
 }
 
+fn replay_input() {
+    let mut room = cases::room();
+    let n = io::read_full(0, &mut room);
+    replayed(b"searches compared: ", &room[..n]);
+}
+
 // The Rust's list has nothing that differs, so the lists that arguments name, wrong on purpose, show that what differs is said.
 fn replay_named(i: usize) {
     let mut room = cases::room();
@@ -197,9 +203,7 @@ fn replay_named(i: usize) {
 }
 
 fn main() {
-    let mut room = cases::room();
-    let n = io::read_full(0, &mut room);
-    replayed(b"searches compared: ", &room[..n]);
+    replay_input();
     for i in 1..os::arg_count() {
         replay_named(i);
     }
