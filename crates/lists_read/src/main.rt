@@ -1,4 +1,4 @@
-// Reads each list that an argument names to its end, and prints how many cases of each kind it has, and how many numbers with their sum.
+// Reads each list that an argument names to its end, and prints how many cases of each kind it has, how many numbers with their sum, and its fault.
 use cases::Cursor;
 use libc::STDOUT_FILENO;
 

@@ -1,5 +1,4 @@
-// Names counters: reads a game from stdin, teaches it, looks its queries up, and prints a table for a person and tables for a program. A line is started by what is
-// printed, and the last ended by `main`.
+// Names counters: reads a game from stdin, teaches it, looks its queries up, and prints a table for a person and tables for a program.
 use games::Game;
 use libc::STDOUT_FILENO;
 use rules::Answer;
@@ -15,7 +14,7 @@ const RANKS: u32 = 1;
 
 const REFUSALS: u32 = 2;
 
-// Prints some bytes.
+// Prints some bytes. A line is started by what is printed, and the last ended by `main`.
 fn say(s: &[u8]) {
     io::write_all(STDOUT_FILENO, s);
 }

@@ -10,26 +10,26 @@ use lib.ListN.{length, take, drop, getD, set, length-set, length-append, drop-of
 use lib.Seq.{drop-cons}
 use Rattle.pages.specs.Page.{over, Puts}
 
-pub over-length : (at : ℕ) (text page : List ℕ) → length (over at text page) ≡ length page
+over-length : (at : ℕ) (text page : List ℕ) → length (over at text page) ≡ length page
 unfolding over
 over-length at text [] = refl
 over-length zero [] (x ∷ xs) = refl
 over-length zero (b ∷ bs) (x ∷ xs) = ap suc (over-length zero bs xs)
 over-length (suc at) text (x ∷ xs) = ap suc (over-length at text xs)
 
-pub over-none : (at : ℕ) (page : List ℕ) → over at [] page ≡ page
+over-none : (at : ℕ) (page : List ℕ) → over at [] page ≡ page
 unfolding over
 over-none at [] = refl
 over-none zero (x ∷ xs) = refl
 over-none (suc at) (x ∷ xs) = ap (λ (l : List ℕ). x ∷ l) (over-none at xs)
 
-pub over-full : (at : ℕ) (text page : List ℕ) → length page ≤ at → over at text page ≡ page
+over-full : (at : ℕ) (text page : List ℕ) → length page ≤ at → over at text page ≡ page
 unfolding over
 over-full at text [] h = refl
 over-full zero text (x ∷ xs) h = absurd (omega (arith, h))
 over-full (suc at) text (x ∷ xs) h = ap (λ (l : List ℕ). x ∷ l) (over-full at text xs (omega (arith, h)))
 
-pub over-one : (at b : ℕ) (bs page : List ℕ) → over (suc at) bs (set page at b) ≡ over at (b ∷ bs) page
+over-one : (at b : ℕ) (bs page : List ℕ) → over (suc at) bs (set page at b) ≡ over at (b ∷ bs) page
 unfolding over
 over-one at b bs [] = refl
 over-one zero b bs (x ∷ xs) = refl

@@ -1,6 +1,5 @@
 -- Small texts, worked by computation. Assumes nothing.
 use mathlib.Core.Path.{_≡_, refl}
-use mathlib.Core.List.{List, [], _∷_, _++_}
 use Rattle.pages.specs.Page.{bytes, decimalIn, decimal, over}
 
 -- 0, 10 and the largest u64

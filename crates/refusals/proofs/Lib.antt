@@ -1,2 +1,2 @@
--- Laws of junk and of lanes.
+-- Laws of junk, of lanes and runs, and of what is put on a page.
 pub mod Laws

@@ -1,7 +1,7 @@
 -- The parts of a refusal test's line. Assumes nothing.
 use mathlib.Core.Bool.{cond}
 use mathlib.Core.List.{List, [], _∷_, _++_}
-use Prim.Native.Nat.{ℕ, zero, suc, _+_, _%_, _^_}
+use Prim.Native.Nat.{ℕ, suc, _+_, _%_, _^_}
 use lib.Dec.{eqb}
 use Rattle.cases.specs.declared.Cursor.{Cursor}
 use Rattle.rules.specs.declared.Refusal.{Refusal}

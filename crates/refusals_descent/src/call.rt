@@ -284,7 +284,7 @@ fn asked(
     )
 }
 
-/// The call on the slices it lends, scratch full of junk; `given_u` and `given_f` are its state as it was.
+/// The call on the slices it lends, scratch full of junk; `given_u` and `given_f` are its state as it was. Its line is said at once.
 pub fn called(
     number: u32,
     c: Call,

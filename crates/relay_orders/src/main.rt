@@ -177,7 +177,7 @@ fn put_lists(nodes: &[u32], dists: &[f32]) {
 
 // The reports of three jobs.
 fn say_reports(reports: &[u32]) {
-    let mut page = [0u8; 64];
+    let mut page = [0u8; 128];
     let named = pages::put(&mut page, 0, b", reports");
     let listed = refusals::put_words(&mut page, named, reports, 6);
     let end = pages::put(&mut page, listed, b"\n");

@@ -1,7 +1,9 @@
 // Replays the oracle's searches on lent places full of junk, and compares what each answers and leaves with what the Rust answered.
 use cases::Cursor;
+use libc::STDOUT_FILENO;
 use rules::SearchAnswer;
 use tallies::Outcome;
+use tallies::Tally;
 
 // The kind of a search in a list.
 const SEARCH: u32 = 2;
@@ -172,39 +174,37 @@ fn one_case(text: &[u8], c: Cursor) -> Outcome {
 }
 
 // A proved loop has to end: it counts its turns down, from more cases than a list has.
-fn replayed(label: &[u8], text: &[u8]) {
+fn replayed(text: &[u8]) -> Tally {
     let mut turns: u32 = 65536;
     let mut t = tallies::none();
     while turns > 0 {
         let case = replays::next_case(text, t.cursor, t.compared);
         let cursor = case.cursor;
         if case.kind != SEARCH {
-            tallies::ended(label, t, case.kind, cursor);
-            return;
+            return tallies::ended(t, case.kind, cursor);
         }
         let o = one_case(text, cursor);
         let next = tallies::with_case(t, o);
         t = next;
         turns -= 1;
     }
+    t
 }
 
-fn replay_input() {
+// A list that is read from standard input (0) or from the file that an argument names.
+fn replay(label: &[u8], i: usize) {
     let mut room = cases::room();
-    let n = io::read_full(0, &mut room);
-    replayed(b"searches compared: ", &room[..n]);
+    let n = tallies::read_list(i, &mut room);
+    let t = replayed(&room[..n]);
+    let mut page = [0u8; 256];
+    let end = tallies::put_tally(&mut page, 0, label, t);
+    io::write_all(STDOUT_FILENO, pages::text(&page, end));
 }
 
 // The Rust's list has nothing that differs, so the lists that arguments name, wrong on purpose, show that what differs is said.
-fn replay_named(i: usize) {
-    let mut room = cases::room();
-    let n = tallies::read_named(i, &mut room);
-    replayed(b"searches of a list that is wrong on purpose: ", &room[..n]);
-}
-
 fn main() {
-    replay_input();
+    replay(b"searches compared: ", 0);
     for i in 1..os::arg_count() {
-        replay_named(i);
+        replay(b"searches of a list that is wrong on purpose: ", i);
     }
 }

@@ -39,6 +39,17 @@ unfoldable pub closed : Tally → ℕ → Cursor → Tally
 closed t kind c =
     record { compared = t .compared; differ = t .differ; cursor = cond (eqb kind 0) c (faulted c 4) }
 
+-- What is said of a case, behind its number
+unfoldable pub differsText : ℕ → List ℕ
+differsText n =
+    cond (eqb n 1) (bytes " is refused\n")
+    (cond (eqb n 2) (bytes " differs in a length\n")
+    (cond (eqb n 3) (bytes " differs in node numbers\n")
+    (cond (eqb n 4) (bytes " differs in distance bits\n")
+    (cond (eqb n 5) (bytes " differs in a count\n")
+    (cond (eqb n 6) (bytes " changes a place that is not its own\n")
+    (cond (eqb n 7) (bytes " leaves scratch that is not zero\n") (bytes " differs in other words\n")))))))
+
 -- What is said of all cases
 unfoldable pub tallyText : List ℕ → Tally → List ℕ
 tallyText label t =

@@ -1,8 +1,8 @@
-// What the replays count and say: how a case came out, and how many did.
+// What the replays read, count and say: a list, how a case came out, and how many did.
 ghost use mathlib.Core.Path.{_≡_};
 ghost use Rattle.io.specs.Counts.{Counts};
 ghost use Rattle.pages.specs.Page.{Puts};
-ghost use Rattle.tallies.specs.Tallies.{noCase, movedTo, joined, scratched, counted, closed, tallyText};
+ghost use Rattle.tallies.specs.Tallies.{noCase, movedTo, joined, scratched, counted, closed, differsText, tallyText};
 use cases::Cursor;
 use libc::STDOUT_FILENO;
 
@@ -84,17 +84,31 @@ pub fn with_scratch(o: Outcome, words: &[u32], floats: &[f32]) -> Outcome
     and(p, replays::all_zero(floats), SCRATCH)
 }
 
-fn put_differs(page: &mut [u8], at: usize, differs: u32) -> usize {
-    match differs {
-        1 => pages::put(page, at, b" is refused\n"),
-        2 => pages::put(page, at, b" differs in a length\n"),
-        3 => pages::put(page, at, b" differs in node numbers\n"),
-        4 => pages::put(page, at, b" differs in distance bits\n"),
-        5 => pages::put(page, at, b" differs in a count\n"),
-        6 => pages::put(page, at, b" changes a place that is not its own\n"),
-        7 => pages::put(page, at, b" leaves scratch that is not zero\n"),
-        _ => pages::put(page, at, b" differs in other words\n"),
+fn put_differs(page: &mut [u8], at: usize, differs: u32) -> usize
+    ensures { λ r. ⌜ Puts at (differsText differs) (now (page .entry)) r (now (page .exit)) ⌝ }
+{
+    if differs == REFUSED {
+        return pages::put(page, at, b" is refused\n");
     }
+    if differs == LENGTH {
+        return pages::put(page, at, b" differs in a length\n");
+    }
+    if differs == NODES {
+        return pages::put(page, at, b" differs in node numbers\n");
+    }
+    if differs == BITS {
+        return pages::put(page, at, b" differs in distance bits\n");
+    }
+    if differs == COUNT {
+        return pages::put(page, at, b" differs in a count\n");
+    }
+    if differs == BEYOND {
+        return pages::put(page, at, b" changes a place that is not its own\n");
+    }
+    if differs == SCRATCH {
+        return pages::put(page, at, b" leaves scratch that is not zero\n");
+    }
+    pages::put(page, at, b" differs in other words\n")
 }
 
 fn say(case: u32, differs: u32) {
@@ -122,8 +136,8 @@ pub fn with_case(t: Tally, o: Outcome) -> Tally
     }
 }
 
-// Puts the tally on a page: what was compared, how many differ, and the numbers read with their sum.
-fn put_tally(page: &mut [u8], at: usize, label: &[u8], t: Tally) -> usize
+/// Puts the tally on a page: what was compared, how many differ, and the numbers read with their sum.
+pub fn put_tally(page: &mut [u8], at: usize, label: &[u8], t: Tally) -> usize
     ensures { λ r. ⌜ Puts at (tallyText (now (label .entry)) t) (now (page .entry)) r (now (page .exit)) ⌝ }
 {
     let compared = pages::put_word(page, at, label, t.compared);
@@ -134,14 +148,8 @@ fn put_tally(page: &mut [u8], at: usize, label: &[u8], t: Tally) -> usize
     pages::put(page, fault, b"\n")
 }
 
-fn say_all(label: &[u8], t: Tally) {
-    let mut page = [0u8; 256];
-    let end = put_tally(&mut page, 0, label, t);
-    io::write_all(STDOUT_FILENO, pages::text(&page, end));
-}
-
-// The tally at the end of the list, whose cursor is `c`; a case of another kind is a fault.
-fn closed(t: Tally, kind: u32, c: Cursor) -> Tally
+/// The tally at the end of the list, whose cursor is `c`; a case of another kind is a fault.
+pub fn ended(t: Tally, kind: u32, c: Cursor) -> Tally
     ensures { λ r. ⌜ r ≡ closed t kind c ⌝ }
 {
     let mut cursor = c;
@@ -155,17 +163,7 @@ fn closed(t: Tally, kind: u32, c: Cursor) -> Tally
     }
 }
 
-/// The tally at the end of the list, whose cursor is `c`; a case of another kind is a fault. It is said at once, behind a label.
-pub fn ended(label: &[u8], t: Tally, kind: u32, c: Cursor) -> Tally
-    ensures { λ r. ⌜ r ≡ closed t kind c ⌝ }
-{
-    let all = closed(t, kind, c);
-    say_all(label, all);
-    all
-}
-
-/// Reads the list that an argument names to the front of the room, and answers its length: 0 where there is none, which is said.
-pub fn read_named(i: usize, room: &mut [u8]) -> usize
+fn read_named(i: usize, room: &mut [u8]) -> usize
     ensures { λ r. ⌜ Counts r (now (room .exit)) ⌝ }
 {
     let mut path = io::buffer();
@@ -178,4 +176,14 @@ pub fn read_named(i: usize, room: &mut [u8]) -> usize
     let long = io::read_full(fd, room);
     libc::close(fd);
     long
+}
+
+/// Reads a list to the front of the room, and answers its length: standard input for 0, and else the file that this argument names; one that cannot be read is said, and empty.
+pub fn read_list(i: usize, room: &mut [u8]) -> usize
+    ensures { λ r. ⌜ Counts r (now (room .exit)) ⌝ }
+{
+    if i == 0 {
+        return io::read_full(0, room);
+    }
+    read_named(i, room)
 }

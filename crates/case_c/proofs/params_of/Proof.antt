@@ -1,5 +1,5 @@
--- `case_c::params_of` meets its contract: the chain of setters gives the parameters of the squares.
-use mathlib.Core.Path.{_≡_, _∙_, ap}
+-- `case_c::params_of` meets its contract: the chain of setters gives the parameters of the squares. Assumes nothing.
+use mathlib.Core.Path.{_∙_, ap}
 use lib.Ieee.{binary32, ofBits}
 use borrow.Author.Needs.{needs}
 use Rattle.params.specs.declared.SsgParams.{SsgParams}

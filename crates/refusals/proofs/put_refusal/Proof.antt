@@ -32,7 +32,10 @@ same-length c = search needs
 
 returns : tie.Need-returns
 unfolding refusalText bytes
-returns c = rw (← c .before .before .before .before .before .before .before .before .before .before .before .before .before .before .before .of-refusal .ensures) (puts-both (puts-both (c .before .before .before .before .before .before .before .before .before .before .before .before .put-number .ensures) (c .before .before .before .before .before .before .before .put-number2 .ensures)) (c .before .before .put-number3 .ensures))
+returns c =
+    let one = c .before .before .before .before .before .before .before .before .before .before .before .before .put-number .ensures in
+    let two = c .before .before .before .before .before .before .before .put-number2 .ensures in
+    rw (← c .before .before .before .before .before .before .before .before .before .before .before .before .before .before .before .of-refusal .ensures) (puts-both (puts-both one two) (c .before .before .put-number3 .ensures))
 
 pub put-refusal-spec : {M : Type 1} → statement M
 put-refusal-spec =

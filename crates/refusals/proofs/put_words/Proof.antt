@@ -22,7 +22,10 @@ same-length : tie.Need-same-length
 same-length c = search needs
 
 returns : tie.Need-returns
-returns c = puts-text (ap wordsText (ap (λ (n : ℕ). take n (c .before .before .before .before .before .before .before .before .args .words .now)) (c .before .before .before .before .before .least .ensures) ∙ take-clipped (c .before .before .before .before .before .before .before .before .args .count) (c .before .before .before .before .before .before .before .before .args .words .now))) (c .before .before .put-all .ensures)
+returns c =
+    let a = c .before .before .before .before .before .before .before .before .args in
+    let cut = ap (λ (n : ℕ). take n (a .words .now)) (c .before .before .before .before .before .least .ensures) ∙ take-clipped (a .count) (a .words .now) in
+    puts-text (ap wordsText cut) (c .before .before .put-all .ensures)
 
 pub put-words-spec : {M : Type 1} → statement M
 put-words-spec =

@@ -10,8 +10,8 @@ Inv-loop i₀ i-end i = Unit {0}
 abbrev μ-loop : tie.MeasureT-loop
 μ-loop i₀ i-end i = i-end - i
 
-replay-input-requires : tie.Need-replay-input-requires Inv-loop μ-loop
-replay-input-requires c κs = search needs
+replay-requires : tie.Need-replay-requires Inv-loop μ-loop
+replay-requires c κs = search needs
 
 arg-count-requires : tie.Need-arg-count-requires Inv-loop μ-loop
 arg-count-requires c κs = search needs
@@ -19,8 +19,8 @@ arg-count-requires c κs = search needs
 loop-holds : tie.Need-loop-holds Inv-loop μ-loop
 loop-holds c = tt
 
-replay-named-requires : tie.Need-replay-named-requires Inv-loop μ-loop
-replay-named-requires c κs = search needs
+replay-requires-2 : tie.Need-replay-requires-2 Inv-loop μ-loop
+replay-requires-2 c κs = search needs
 
 add-i : tie.Need-add-i Inv-loop μ-loop
 add-i c = search needs
@@ -40,10 +40,10 @@ main-spec =
     (tie.spec
     Inv-loop
     μ-loop
-    replay-input-requires
+    replay-requires
     arg-count-requires
     loop-holds
-    replay-named-requires
+    replay-requires-2
     add-i
     loop-less
     loop-again

@@ -4,10 +4,10 @@ use Rattle.replay_descent.proofs.replayed.Statement.{statement}
 use Rattle.replay_descent.proofs.replayed.Tie as tie
 
 abbrev Inv-loop : tie.InvT-loop
-Inv-loop label text left₀ t₀ left t = Unit {0}
+Inv-loop text left₀ t₀ left t = Unit {0}
 
 abbrev μ-loop : tie.MeasureT-loop
-μ-loop label text left₀ t₀ left t = left
+μ-loop text left₀ t₀ left t = left
 
 none-requires : tie.Need-none-requires Inv-loop μ-loop
 none-requires c κs = search needs

@@ -8,6 +8,9 @@ use Rattle.replay_relay.proofs.moves.Tie as tie
 read-size-requires : tie.Need-read-size-requires
 read-size-requires c κs = search needs
 
+at-requires : tie.Need-at-requires
+at-requires c κs = search needs
+
 array-borrow-prefix-order : tie.Need-array-borrow-prefix-order
 array-borrow-prefix-order c = search needs
 
@@ -31,6 +34,7 @@ moves-spec =
     tie.close
     (tie.spec
     read-size-requires
+    at-requires
     array-borrow-prefix-order
     slice-aggregate-ordered
     ordered-requires

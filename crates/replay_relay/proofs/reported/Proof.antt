@@ -14,6 +14,9 @@ slice-aggregate-compare c = simp length-take (omega arith)
 compare-requires : tie.Need-compare-requires
 compare-requires c κs = search needs
 
+at-requires : tie.Need-at-requires
+at-requires c κs = search needs
+
 and-requires : tie.Need-and-requires
 and-requires c κs = search needs
 
@@ -33,6 +36,7 @@ reported-spec =
     least-requires
     slice-aggregate-compare
     compare-requires
+    at-requires
     and-requires
     all-words-requires
     and-requires-2

@@ -4,10 +4,10 @@ use Rattle.replay_search.proofs.replayed.Statement.{statement}
 use Rattle.replay_search.proofs.replayed.Tie as tie
 
 abbrev Inv-loop : tie.InvT-loop
-Inv-loop label text turns₀ t₀ turns t = Unit {0}
+Inv-loop text turns₀ t₀ turns t = Unit {0}
 
 abbrev μ-loop : tie.MeasureT-loop
-μ-loop label text turns₀ t₀ turns t = turns
+μ-loop text turns₀ t₀ turns t = turns
 
 none-requires : tie.Need-none-requires Inv-loop μ-loop
 none-requires c κs = search needs

@@ -44,7 +44,13 @@ same-length c = search needs
 
 returns : tie.Need-returns
 unfolding tallyText bytes
-returns c = puts-both (puts-both (puts-both (puts-both (puts-both (c .before .before .before .before .before .before .before .before .before .before .before .before .before .before .before .before .before .before .before .before .before .before .before .before .before .before .before .put-word .ensures) (c .before .before .before .before .before .before .before .before .before .before .before .before .before .before .before .before .before .before .before .before .before .before .put-word2 .ensures)) (c .before .before .before .before .before .before .before .before .before .before .before .before .before .before .before .before .before .put-word3 .ensures)) (c .before .before .before .before .before .before .before .before .before .before .before .before .put-word4 .ensures)) (c .before .before .before .before .before .before .before .put-word5 .ensures)) (c .before .before .put .ensures)
+returns c =
+    let one = c .before .before .before .before .before .before .before .before .before .before .before .before .before .before .before .before .before .before .before .before .before .before .before .before .before .before .before .put-word .ensures in
+    let two = c .before .before .before .before .before .before .before .before .before .before .before .before .before .before .before .before .before .before .before .before .before .before .put-word2 .ensures in
+    let three = c .before .before .before .before .before .before .before .before .before .before .before .before .before .before .before .before .before .put-word3 .ensures in
+    let four = c .before .before .before .before .before .before .before .before .before .before .before .before .put-word4 .ensures in
+    let five = c .before .before .before .before .before .before .before .put-word5 .ensures in
+    puts-both (puts-both (puts-both (puts-both (puts-both one two) three) four) five) (c .before .before .put .ensures)
 
 pub put-tally-spec : {M : Type 1} → statement M
 put-tally-spec =

@@ -1,9 +1,9 @@
--- `tallies::closed` meets its contract. Assumes nothing.
+-- `tallies::ended` meets its contract. Assumes nothing.
 use borrow.Author.Tests.{eq-eqb, ne-eqb}
 use Rattle.tallies.specs.Tallies.{closed}
 use borrow.Author.Needs.{needs}
-use Rattle.tallies.proofs.closed.Statement.{statement}
-use Rattle.tallies.proofs.closed.Tie as tie
+use Rattle.tallies.proofs.ended.Statement.{statement}
+use Rattle.tallies.proofs.ended.Tie as tie
 
 faulted-requires : tie.Need-faulted-requires
 faulted-requires c κs = search needs
@@ -16,5 +16,5 @@ returns-2 : tie.Need-returns-2
 unfolding closed
 returns-2 c = simp (eq-eqb _ _ (c .if1 .left))
 
-pub closed-spec : {M : Type 1} → statement M
-closed-spec = tie.close (tie.spec faulted-requires returns returns-2)
+pub ended-spec : {M : Type 1} → statement M
+ended-spec = tie.close (tie.spec faulted-requires returns returns-2)
