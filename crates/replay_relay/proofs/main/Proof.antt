@@ -5,10 +5,13 @@ use Rattle.replay_relay.proofs.main.Statement.{statement}
 use Rattle.replay_relay.proofs.main.Tie as tie
 
 abbrev Inv-loop : tie.InvT-loop
-Inv-loop i₀ i-end i = Unit {0}
+Inv-loop i₀ t3 i-end i = Unit {0}
 
 abbrev μ-loop : tie.MeasureT-loop
-μ-loop i₀ i-end i = i-end - i
+μ-loop i₀ t3 i-end i = i-end - i
+
+slice-aggregate-replay : tie.Need-slice-aggregate-replay Inv-loop μ-loop
+slice-aggregate-replay c = search needs
 
 replay-requires : tie.Need-replay-requires Inv-loop μ-loop
 replay-requires c κs = search needs
@@ -18,6 +21,9 @@ arg-count-requires c κs = search needs
 
 loop-holds : tie.Need-loop-holds Inv-loop μ-loop
 loop-holds c = tt
+
+slice-aggregate-replay-2 : tie.Need-slice-aggregate-replay-2 Inv-loop μ-loop
+slice-aggregate-replay-2 c = search needs
 
 replay-requires-2 : tie.Need-replay-requires-2 Inv-loop μ-loop
 replay-requires-2 c κs = search needs
@@ -40,9 +46,11 @@ main-spec =
     (tie.spec
     Inv-loop
     μ-loop
+    slice-aggregate-replay
     replay-requires
     arg-count-requires
     loop-holds
+    slice-aggregate-replay-2
     replay-requires-2
     add-i
     loop-less
