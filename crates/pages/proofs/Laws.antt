@@ -8,46 +8,46 @@ use native.Mathlib.Numerals.{add-one}
 use lib.Dec.{T, ltb, ltb→lt, nltb→le}
 use lib.ListN.{length, take, drop, getD, set, length-set, length-append, drop-of-length-le}
 use lib.Seq.{drop-cons}
-use Rattle.pages.specs.Page.{over, Puts}
+use Rattle.pages.specs.Page.{writtenOver, Puts}
 
-over-length : (at : ℕ) (text page : List ℕ) → length (over at text page) ≡ length page
-unfolding over
+over-length : (at : ℕ) (text page : List ℕ) → length (writtenOver at text page) ≡ length page
+unfolding writtenOver
 over-length at text [] = refl
 over-length zero [] (x ∷ xs) = refl
 over-length zero (b ∷ bs) (x ∷ xs) = ap suc (over-length zero bs xs)
 over-length (suc at) text (x ∷ xs) = ap suc (over-length at text xs)
 
-over-none : (at : ℕ) (page : List ℕ) → over at [] page ≡ page
-unfolding over
+over-none : (at : ℕ) (page : List ℕ) → writtenOver at [] page ≡ page
+unfolding writtenOver
 over-none at [] = refl
 over-none zero (x ∷ xs) = refl
 over-none (suc at) (x ∷ xs) = ap (λ (l : List ℕ). x ∷ l) (over-none at xs)
 
-over-full : (at : ℕ) (text page : List ℕ) → length page ≤ at → over at text page ≡ page
-unfolding over
+over-full : (at : ℕ) (text page : List ℕ) → length page ≤ at → writtenOver at text page ≡ page
+unfolding writtenOver
 over-full at text [] h = refl
 over-full zero text (x ∷ xs) h = absurd (omega (arith, h))
 over-full (suc at) text (x ∷ xs) h = ap (λ (l : List ℕ). x ∷ l) (over-full at text xs (omega (arith, h)))
 
-over-one : (at b : ℕ) (bs page : List ℕ) → over (suc at) bs (set page at b) ≡ over at (b ∷ bs) page
-unfolding over
+over-one : (at b : ℕ) (bs page : List ℕ) → writtenOver (suc at) bs (set page at b) ≡ writtenOver at (b ∷ bs) page
+unfolding writtenOver
 over-one at b bs [] = refl
 over-one zero b bs (x ∷ xs) = refl
 over-one (suc at) b bs (x ∷ xs) = ap (λ (l : List ℕ). x ∷ l) (over-one at b bs xs)
 
-over-append : (at : ℕ) (a b page : List ℕ) → over (at + length a) b (over at a page) ≡ over at (a ++ b) page
-over-append at [] b page = rw (over-none at page) (ap (λ (n : ℕ). over n b page) (omega arith))
+over-append : (at : ℕ) (a b page : List ℕ) → writtenOver (at + length a) b (writtenOver at a page) ≡ writtenOver at (a ++ b) page
+over-append at [] b page = rw (over-none at page) (ap (λ (n : ℕ). writtenOver n b page) (omega arith))
 over-append at (x ∷ a) b page =
-    ap (λ (n : ℕ). over n b (over at (x ∷ a) page)) (omega arith) ∙ ap (over (suc at + length a) b) (sym (over-one at x a page))
+    ap (λ (n : ℕ). writtenOver n b (writtenOver at (x ∷ a) page)) (omega arith) ∙ ap (writtenOver (suc at + length a) b) (sym (over-one at x a page))
     ∙ over-append (suc at) a b (set page at x) ∙ over-one at x (a ++ b) page
 
 module _ (text page : List ℕ) where
   -- a place behind the page is as its end
-  over-clipped : (at : ℕ) → over (min at (length page)) text page ≡ over at text page
+  over-clipped : (at : ℕ) → writtenOver (min at (length page)) text page ≡ writtenOver at text page
   over-clipped at = go (ltb at (length page)) (ltb→lt at (length page)) (nltb→le at (length page))
     where
-      go : (b : Bool) → (T b → at < length page) → (T (not b) → length page ≤ at) → over (min at (length page)) text page ≡ over at text page
-      go true lt le = let h = lt tt in ap (λ (n : ℕ). over n text page) (omega (arith, h))
+      go : (b : Bool) → (T b → at < length page) → (T (not b) → length page ≤ at) → writtenOver (min at (length page)) text page ≡ writtenOver at text page
+      go true lt le = let h = lt tt in ap (λ (n : ℕ). writtenOver n text page) (omega (arith, h))
       go false lt le = let h = le tt in over-full (min at (length page)) text page (omega (arith, h)) ∙ sym (over-full at text page h)
 
 pub puts-long : {at r : ℕ} {text page left : List ℕ} → Puts at text page r left → length left ≡ length page
@@ -72,8 +72,8 @@ puts-both {at} {q} {r} {a} {b} {page} {left} {last} x y =
     record {
       place = omega arith;
       written =
-          y .written ∙ ap (λ (l : List ℕ). over q b l) (x .written) ∙ ap (λ (n : ℕ). over n b (over at a page)) (x .place ∙ ap (min (at + length a)) (sym (over-length at a page)))
-          ∙ over-clipped b (over at a page) (at + length a) ∙ over-append at a b page;
+          y .written ∙ ap (λ (l : List ℕ). writtenOver q b l) (x .written) ∙ ap (λ (n : ℕ). writtenOver n b (writtenOver at a page)) (x .place ∙ ap (min (at + length a)) (sym (over-length at a page)))
+          ∙ over-clipped b (writtenOver at a page) (at + length a) ∙ over-append at a b page;
     }
 
 -- in a loop that puts one text behind another: what was put, and what is left of the whole
@@ -106,7 +106,7 @@ running-end r = puts-text (sym (append-nil (r .done)) ∙ r .all) (r .put)
 
 -- in the loop of `put`: what is left of the text, over the page as it is, is the whole over the page as it was
 pub record Putting (at : ℕ) (text page₀ page : List ℕ) (i place : ℕ) : Type 0 where
-  pub rest : over place (drop i text) page ≡ over at text page₀
+  pub rest : writtenOver place (drop i text) page ≡ writtenOver at text page₀
   pub here : place ≡ at + i
   pub within : i ≤ length text
   pub long : length page ≡ length page₀
@@ -116,7 +116,7 @@ module _ {at : ℕ} {text page₀ page : List ℕ} {i place : ℕ} (inv : Puttin
   putting-turn h =
       let here = inv .here in
       record {
-        rest = rw (add-one i, add-one place) (over-one place (getD text i 0) (drop (suc i) text) page ∙ ap (λ (l : List ℕ). over place l page) (sym (drop-cons text i 0 h)) ∙ inv .rest);
+        rest = rw (add-one i, add-one place) (over-one place (getD text i 0) (drop (suc i) text) page ∙ ap (λ (l : List ℕ). writtenOver place l page) (sym (drop-cons text i 0 h)) ∙ inv .rest);
         here = omega arith;
         within = omega arith;
         long = length-set page place (getD text i 0) ∙ inv .long;
@@ -136,4 +136,4 @@ module _ {at : ℕ} {text page₀ page : List ℕ} {i place : ℕ} (inv : Puttin
       let here = inv .here in
       let within = inv .within in
       let long = inv .long in
-      record { place = omega arith; written = sym (over-none place page) ∙ ap (λ (l : List ℕ). over place l page) (sym (drop-of-length-le text h)) ∙ inv .rest }
+      record { place = omega arith; written = sym (over-none place page) ∙ ap (λ (l : List ℕ). writtenOver place l page) (sym (drop-of-length-le text h)) ∙ inv .rest }

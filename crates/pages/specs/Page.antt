@@ -27,13 +27,13 @@ abbrev pub labelled : List ℕ → ℕ → List ℕ
 labelled label n = label ++ decimal n
 
 -- A page with a text over what it holds from a place on, as far as it has room
-unfoldable pub over : ℕ → List ℕ → List ℕ → List ℕ
-over at text [] = []
-over zero [] (x ∷ xs) = x ∷ xs
-over zero (b ∷ bs) (x ∷ xs) = b ∷ over zero bs xs
-over (suc at) text (x ∷ xs) = x ∷ over at text xs
+unfoldable pub writtenOver : ℕ → List ℕ → List ℕ → List ℕ
+writtenOver at text [] = []
+writtenOver zero [] (x ∷ xs) = x ∷ xs
+writtenOver zero (b ∷ bs) (x ∷ xs) = b ∷ writtenOver zero bs xs
+writtenOver (suc at) text (x ∷ xs) = x ∷ writtenOver at text xs
 
 -- A text was put on a page from a place on: what is answered is the place behind it, or behind the page.
 pub record Puts (at : ℕ) (text page : List ℕ) (answer : ℕ) (left : List ℕ) : Type 0 where
   pub place : answer ≡ min (at + length text) (length page)
-  pub written : left ≡ over at text page
+  pub written : left ≡ writtenOver at text page
