@@ -1,49 +1,17 @@
 // Replays the oracle's builds on lent places full of junk, and compares the graph of each with the Rust's.
 use cases::Cursor;
 use libc::STDOUT_FILENO;
-use params::SsgParams;
 use rules::Answer;
+use shape::Shape;
 use tallies::Outcome;
 use tallies::Tally;
+
+mod shape;
 
 // The kind of a build in a list.
 const BUILD: u32 = 1;
 // What lent places hold before a call.
 const JUNK: u32 = 0xCDCD_CDCD;
-
-// The numbers of a case, and the place of its lanes in the list.
-struct Shape {
-    dimension: usize,
-    n: usize,
-    params: SsgParams,
-    cursor: Cursor,
-}
-
-fn read_params(text: &[u8], dimension: usize, n: usize, c: Cursor) -> Shape {
-    let init_k = cases::read_size(text, c, 64);
-    let row = cases::read_size(text, init_k.cursor, 64);
-    let hops = cases::read_size(text, row.cursor, 256);
-    let threshold = cases::read_word(text, hops.cursor);
-    let cursor = threshold.cursor;
-    let params = SsgParams {
-        threshold: cases::float(threshold.value),
-        init_k: init_k.value,
-        index_size: row.value,
-        neighbor_neighbor_size: hops.value,
-    };
-    Shape {
-        dimension: dimension,
-        n: n,
-        params: params,
-        cursor: cursor,
-    }
-}
-
-fn read_shape(text: &[u8], c: Cursor) -> Shape {
-    let d = cases::read_size(text, c, 64);
-    let n = cases::read_size(text, d.cursor, 256);
-    read_params(text, d.value, n.value, n.cursor)
-}
 
 // Passes the lists after steps 1, 4 and 5: the graph says what they led to.
 fn pass_steps(text: &[u8], c: Cursor, n: usize, graph_long: usize) -> Cursor {
@@ -65,8 +33,8 @@ fn beside(text: &[u8], c: Cursor, n: usize, graph: &[u32], differs: u32) -> Outc
 
 // The call. `c` is the place of the answer in the list.
 fn built(text: &[u8], c: Cursor, s: Shape, lanes: &[f32], graph: &mut [u32]) -> Outcome {
-    let mut words = [JUNK; 32768];
-    let mut floats = [1.5f32; 32768];
+    let mut words: [u32; 32768] = [JUNK; 32768];
+    let mut floats: [f32; 32768] = [1.5; 32768];
     let params = s.params;
     let answer = build::build(
         params,
@@ -101,9 +69,9 @@ fn lent(text: &[u8], s: Shape, lanes: &mut [f32], graph: &mut [u32]) -> Outcome 
 }
 
 fn one_case(text: &[u8], c: Cursor) -> Outcome {
-    let s = read_shape(text, c);
-    let mut lanes = [0.0f32; 1024];
-    let mut graph = [JUNK; 512];
+    let s = shape::read_shape(text, c);
+    let mut lanes: [f32; 1024] = [0.0; 1024];
+    let mut graph: [u32; 512] = [JUNK; 512];
     lent(text, s, &mut lanes, &mut graph)
 }
 
@@ -130,7 +98,7 @@ fn replay(label: &[u8], i: usize) {
     let mut room = cases::room();
     let n = tallies::read_list(i, &mut room);
     let t = replayed(&room[..n]);
-    let mut page = [0u8; 256];
+    let mut page: [u8; 256] = [0; 256];
     let end = tallies::put_tally(&mut page, 0, label, t);
     io::write_all(STDOUT_FILENO, pages::text(&page, end));
 }

@@ -4,8 +4,11 @@ use cases::Size;
 use libc::STDOUT_FILENO;
 use rules::Answer;
 use rules::IterateAnswer;
+use shape::Shape;
 use tallies::Outcome;
 use tallies::Tally;
+
+mod shape;
 
 // The kinds of a descent and of a single iteration in a list.
 const DESCENT: u32 = 3;
@@ -14,34 +17,10 @@ const ITERATION: u32 = 4;
 // What lent places hold before a call.
 const JUNK: u32 = 0xCDCD_CDCD;
 
-// The numbers of a case, and the place of its lanes in the list.
-struct Shape {
-    dimension: usize,
-    n: usize,
-    k: usize,
-    s: usize,
-    cursor: Cursor,
-}
-
 // How an iteration came out, and the place behind its draws.
 struct Turned {
     outcome: Outcome,
     draws: Cursor,
-}
-
-fn read_shape(text: &[u8], c: Cursor) -> Shape {
-    let d = cases::read_size(text, c, 64);
-    let n = cases::read_size(text, d.cursor, 48);
-    let k = cases::read_size(text, n.cursor, 64);
-    let s = cases::read_size(text, k.cursor, 64);
-    let cursor = s.cursor;
-    Shape {
-        dimension: d.value,
-        n: n.value,
-        k: k.value,
-        s: s.value,
-        cursor: cursor,
-    }
 }
 
 // The state beside the list's, whose words and floats are given.
@@ -75,8 +54,8 @@ fn beside_read(
 
 // Places as long as the state's, for the list's.
 fn beside(text: &[u8], o: Outcome, s: Shape, state_u: &[u32], state_f: &[f32]) -> Outcome {
-    let mut words = [0u32; 12648];
-    let mut floats = [0.0f32; 192];
+    let mut words: [u32; 12648] = [0; 12648];
+    let mut floats: [f32; 192] = [0.0; 192];
     let words_long = cases::least(state_u.len(), words.len());
     let floats_long = cases::least(state_f.len(), floats.len());
     beside_read(
@@ -132,8 +111,8 @@ fn iterated(
     state_u: &mut [u32],
     state_f: &mut [f32],
 ) -> Outcome {
-    let mut words = [JUNK; 28672];
-    let mut floats = [1.5f32; 28672];
+    let mut words: [u32; 28672] = [JUNK; 28672];
+    let mut floats: [f32; 28672] = [1.5; 28672];
     let answer = iterate::iterate(
         s.dimension,
         s.n,
@@ -171,7 +150,7 @@ fn turn(
     state_u: &mut [u32],
     state_f: &mut [f32],
 ) -> Turned {
-    let mut draws = [0u32; 512];
+    let mut draws: [u32; 512] = [0; 512];
     let drawn = read_draws(text, c, &mut draws);
     let long = cases::least(drawn.value, draws.len());
     let cursor = drawn.cursor;
@@ -214,8 +193,8 @@ fn begun(
     state_u: &mut [u32],
     state_f: &mut [f32],
 ) -> Outcome {
-    let mut words = [JUNK; 28672];
-    let mut floats = [1.5f32; 28672];
+    let mut words: [u32; 28672] = [JUNK; 28672];
+    let mut floats: [f32; 28672] = [1.5; 28672];
     let answer = descent::begin(
         s.dimension,
         s.n,
@@ -253,10 +232,10 @@ fn descended(
     state_u: &mut [u32],
     state_f: &mut [f32],
 ) -> Outcome {
-    let mut draws = [0u32; 512];
+    let mut draws: [u32; 512] = [0; 512];
     let drawn = read_draws(text, c, &mut draws);
     let long = cases::least(drawn.value, draws.len());
-    let count = cases::read_size(text, drawn.cursor, 16);
+    let count = shape::read_iterations(text, drawn.cursor);
     let behind = kinds::pass_runs(text, count.cursor, count.value);
     let o = begun(
         text,
@@ -347,10 +326,10 @@ fn lent(
 }
 
 fn one_case(text: &[u8], kind: u32, c: Cursor) -> Outcome {
-    let s = read_shape(text, c);
-    let mut lanes = [0.0f32; 256];
-    let mut state_u = [JUNK; 12648];
-    let mut state_f = [1.5f32; 192];
+    let s = shape::read_shape(text, c);
+    let mut lanes: [f32; 256] = [0.0; 256];
+    let mut state_u: [u32; 12648] = [JUNK; 12648];
+    let mut state_f: [f32; 192] = [1.5; 192];
     lent(text, kind, s, &mut lanes, &mut state_u, &mut state_f)
 }
 
@@ -384,7 +363,7 @@ fn replay(label: &[u8], i: usize) {
     let mut room = cases::room();
     let n = tallies::read_list(i, &mut room);
     let t = replayed(&room[..n]);
-    let mut page = [0u8; 256];
+    let mut page: [u8; 256] = [0; 256];
     let end = tallies::put_tally(&mut page, 0, label, t);
     io::write_all(STDOUT_FILENO, pages::text(&page, end));
 }

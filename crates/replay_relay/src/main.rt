@@ -2,34 +2,16 @@
 use cases::Cursor;
 use libc::STDOUT_FILENO;
 use rules::Answer;
+use shape::Shape;
 use tallies::Outcome;
 use tallies::Tally;
+
+mod shape;
 
 // The kind of a relay in a list.
 const RELAY: u32 = 5;
 // What lent places hold before a call.
 const JUNK: u32 = 0xCDCD_CDCD;
-
-// The numbers of a case, and the place of its lanes in the list.
-struct Shape {
-    dimension: usize,
-    n: usize,
-    k: usize,
-    cursor: Cursor,
-}
-
-fn read_shape(text: &[u8], c: Cursor) -> Shape {
-    let d = cases::read_size(text, c, 64);
-    let n = cases::read_size(text, d.cursor, 256);
-    let k = cases::read_size(text, n.cursor, 64);
-    let cursor = k.cursor;
-    Shape {
-        dimension: d.value,
-        n: n.value,
-        k: k.value,
-        cursor: cursor,
-    }
-}
 
 fn done(answer: Answer) -> bool {
     match answer {
@@ -85,7 +67,7 @@ fn word_at(words: &[u32], at: usize) -> u32 {
 
 // The list of node `node` as a move left it, beside the list's.
 fn left(text: &[u8], o: Outcome, s: Shape, node: usize, words: &[u32], floats: &[f32]) -> Outcome {
-    let len = cases::read_size(text, o.cursor, 128);
+    let len = shape::read_entries(text, o.cursor);
     let p = tallies::at(o, len.cursor);
     let ours = word_at(words, relays::length_at(s.n, s.k, node));
     let q = tallies::and(p, ours == len.value as u32, tallies::LENGTH);
@@ -158,7 +140,7 @@ fn closed(
     nodes: &mut [u32],
     dists: &mut [f32],
 ) -> Outcome {
-    let mut reports = [JUNK; 128];
+    let mut reports: [u32; 128] = [JUNK; 128];
     let answer = relay_close::close(s.n, s.k, words, floats, nodes, dists, &mut reports);
     let p = tallies::and(o, done(answer), tallies::REFUSED);
     let q = beside(text, p, nodes, dists);
@@ -173,8 +155,8 @@ fn close_in(
     words: &[u32],
     floats: &[f32],
 ) -> Outcome {
-    let mut nodes = [JUNK; 256];
-    let mut dists = [1.5f32; 256];
+    let mut nodes: [u32; 256] = [JUNK; 256];
+    let mut dists: [f32; 256] = [1.5; 256];
     let nodes_long = cases::least(cases::area(s.n, s.k), nodes.len());
     let dists_long = cases::least(cases::area(s.n, s.k), dists.len());
     closed(
@@ -200,8 +182,8 @@ fn opened(
     words: &mut [u32],
     floats: &mut [f32],
 ) -> Outcome {
-    let mut scratch_u = [JUNK; 55296];
-    let mut scratch_f = [1.5f32; 55296];
+    let mut scratch_u: [u32; 55296] = [JUNK; 55296];
+    let mut scratch_f: [f32; 55296] = [1.5; 55296];
     let answer = relay_opening::open(
         s.dimension,
         s.n,
@@ -246,10 +228,10 @@ fn moves(
     words: &mut [u32],
     floats: &mut [f32],
 ) -> Outcome {
-    let count = cases::read_size(text, o.cursor, 512);
+    let count = shape::read_moves(text, o.cursor);
     let long = count.value;
     let p = tallies::at(o, count.cursor);
-    let mut order = [0u32; 512];
+    let mut order: [u32; 512] = [0; 512];
     ordered(text, p, s, jobs, &mut order[..long], words, floats)
 }
 
@@ -279,8 +261,8 @@ fn with_jobs(
     dists: &[f32],
     jobs: &mut [u32],
 ) -> Outcome {
-    let mut words = [JUNK; 8192];
-    let mut floats = [1.5f32; 8192];
+    let mut words: [u32; 8192] = [JUNK; 8192];
+    let mut floats: [f32; 8192] = [1.5; 8192];
     let words_long = cases::least(relays::words_long(s.n, s.k), words.len());
     let floats_long = cases::least(relays::floats_long(s.n, s.k), floats.len());
     let cursor = cases::read_words(text, c, jobs);
@@ -305,9 +287,9 @@ fn with_lists(
     nodes: &[u32],
     dists: &[f32],
 ) -> Outcome {
-    let count = cases::read_size(text, c, 64);
+    let count = shape::read_jobs(text, c);
     let long = 2 * count.value;
-    let mut jobs = [0u32; 128];
+    let mut jobs: [u32; 128] = [0; 128];
     with_jobs(
         text,
         count.cursor,
@@ -348,10 +330,10 @@ fn lent(text: &[u8], s: Shape, lanes: &mut [f32], nodes: &mut [u32], dists: &mut
 }
 
 fn one_case(text: &[u8], c: Cursor) -> Outcome {
-    let s = read_shape(text, c);
-    let mut lanes = [0.0f32; 2048];
-    let mut nodes = [0u32; 256];
-    let mut dists = [0.0f32; 256];
+    let s = shape::read_shape(text, c);
+    let mut lanes: [f32; 2048] = [0.0; 2048];
+    let mut nodes: [u32; 256] = [0; 256];
+    let mut dists: [f32; 256] = [0.0; 256];
     lent(text, s, &mut lanes, &mut nodes, &mut dists)
 }
 
@@ -378,7 +360,7 @@ fn replay(label: &[u8], i: usize) {
     let mut room = cases::room();
     let n = tallies::read_list(i, &mut room);
     let t = replayed(&room[..n]);
-    let mut page = [0u8; 256];
+    let mut page: [u8; 256] = [0; 256];
     let end = tallies::put_tally(&mut page, 0, label, t);
     io::write_all(STDOUT_FILENO, pages::text(&page, end));
 }

@@ -2,46 +2,20 @@
 use cases::Cursor;
 use libc::STDOUT_FILENO;
 use rules::SearchAnswer;
+use shape::Shape;
 use tallies::Outcome;
 use tallies::Tally;
+
+mod shape;
 
 // The kind of a search in a list.
 const SEARCH: u32 = 2;
 // What lent places hold before a call.
 const JUNK: u32 = 0xCDCD_CDCD;
 
-// The numbers of a case, how many floats its lanes and query are, and the place of its roots in the list.
-struct Shape {
-    dimension: usize,
-    n: usize,
-    points: usize,
-    row: usize,
-    k: usize,
-    roots: usize,
-    cursor: Cursor,
-}
-
-fn read_shape(text: &[u8], c: Cursor) -> Shape {
-    let d = cases::read_size(text, c, 64);
-    let n = cases::read_size(text, d.cursor, 256);
-    let row = cases::read_size(text, n.cursor, 64);
-    let k = cases::read_size(text, row.cursor, 64);
-    let roots = cases::read_size(text, k.cursor, 64);
-    let cursor = roots.cursor;
-    Shape {
-        dimension: d.value,
-        n: n.value,
-        points: cases::area(n.value + 1, d.value),
-        row: row.value,
-        k: k.value,
-        roots: roots.value,
-        cursor: cursor,
-    }
-}
-
 // Passes the answer of a case: what differs is known.
 fn pass_answer(text: &[u8], c: Cursor, differs: u32) -> Outcome {
-    let m = cases::read_size(text, c, 64);
+    let m = shape::read_m(text, c);
     let cursor = m.cursor;
     Outcome {
         differs: differs,
@@ -66,7 +40,7 @@ fn beside(text: &[u8], c: Cursor, nodes: &[u32], bits: &[u32], takings: usize) -
 
 // What was found, beside the list's answer; further places are unchanged.
 fn found(text: &[u8], c: Cursor, m: usize, takings: usize, nodes: &[u32], bits: &[u32]) -> Outcome {
-    let listed = cases::read_size(text, c, 64);
+    let listed = shape::read_m(text, c);
     let cursor = listed.cursor;
     if m != listed.value {
         return pass_answer(text, c, tallies::LENGTH);
@@ -92,10 +66,10 @@ fn searched(
     graph: &[u32],
     roots: &[u32],
 ) -> Outcome {
-    let mut nodes = [JUNK; 64];
-    let mut bits = [JUNK; 64];
-    let mut words = [JUNK; 2048];
-    let mut floats = [1.5f32; 2048];
+    let mut nodes: [u32; 64] = [JUNK; 64];
+    let mut bits: [u32; 64] = [JUNK; 64];
+    let mut words: [u32; 2048] = [JUNK; 2048];
+    let mut floats: [f32; 2048] = [1.5; 2048];
     let answer = search::search(
         s.dimension,
         s.n,
@@ -166,10 +140,10 @@ fn lent(
 }
 
 fn one_case(text: &[u8], c: Cursor) -> Outcome {
-    let s = read_shape(text, c);
-    let mut points = [0.0f32; 1088];
-    let mut graph = [0u32; 512];
-    let mut roots = [0u32; 64];
+    let s = shape::read_shape(text, c);
+    let mut points: [f32; 1088] = [0.0; 1088];
+    let mut graph: [u32; 512] = [0; 512];
+    let mut roots: [u32; 64] = [0; 64];
     lent(text, s, &mut points, &mut graph, &mut roots)
 }
 
@@ -196,7 +170,7 @@ fn replay(label: &[u8], i: usize) {
     let mut room = cases::room();
     let n = tallies::read_list(i, &mut room);
     let t = replayed(&room[..n]);
-    let mut page = [0u8; 256];
+    let mut page: [u8; 256] = [0; 256];
     let end = tallies::put_tally(&mut page, 0, label, t);
     io::write_all(STDOUT_FILENO, pages::text(&page, end));
 }

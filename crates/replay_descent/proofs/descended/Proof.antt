@@ -14,8 +14,8 @@ read-draws-requires c κs = search needs
 least-requires : tie.Need-least-requires
 least-requires c κs = search needs
 
-read-size-requires : tie.Need-read-size-requires
-read-size-requires c κs = search needs
+read-iterations-requires : tie.Need-read-iterations-requires
+read-iterations-requires c κs = search needs
 
 pass-runs-requires : tie.Need-pass-runs-requires
 pass-runs-requires c κs = search needs
@@ -51,7 +51,7 @@ descended-spec =
     slice-aggregate-read-draws
     read-draws-requires
     least-requires
-    read-size-requires
+    read-iterations-requires
     pass-runs-requires
     fresh-requires
     array-share-prefix-draws

@@ -5,8 +5,8 @@ use borrow.Author.Needs.{needs}
 use Rattle.replay_relay.proofs.moves.Statement.{statement}
 use Rattle.replay_relay.proofs.moves.Tie as tie
 
-read-size-requires : tie.Need-read-size-requires
-read-size-requires c κs = search needs
+read-moves-requires : tie.Need-read-moves-requires
+read-moves-requires c κs = search needs
 
 at-requires : tie.Need-at-requires
 at-requires c κs = search needs
@@ -33,7 +33,7 @@ pub moves-spec : {M : Type 1} → statement M
 moves-spec =
     tie.close
     (tie.spec
-    read-size-requires
+    read-moves-requires
     at-requires
     array-borrow-prefix-order
     slice-aggregate-ordered

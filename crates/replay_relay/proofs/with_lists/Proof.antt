@@ -5,8 +5,8 @@ use borrow.Author.Needs.{needs}
 use Rattle.replay_relay.proofs.with_lists.Statement.{statement}
 use Rattle.replay_relay.proofs.with_lists.Tie as tie
 
-read-size-requires : tie.Need-read-size-requires
-read-size-requires c κs = search needs
+read-jobs-requires : tie.Need-read-jobs-requires
+read-jobs-requires c κs = search needs
 
 mul-long : tie.Need-mul-long
 mul-long c = search needs
@@ -27,7 +27,7 @@ pub with-lists-spec : {M : Type 1} → statement M
 with-lists-spec =
     tie.close
     (tie.spec
-    read-size-requires
+    read-jobs-requires
     mul-long
     array-borrow-prefix-jobs
     slice-aggregate-with-jobs

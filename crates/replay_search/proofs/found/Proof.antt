@@ -5,8 +5,8 @@ use borrow.Author.Needs.{needs}
 use Rattle.replay_search.proofs.found.Statement.{statement}
 use Rattle.replay_search.proofs.found.Tie as tie
 
-read-size-requires : tie.Need-read-size-requires
-read-size-requires c κs = search needs
+read-m-requires : tie.Need-read-m-requires
+read-m-requires c κs = search needs
 
 pass-answer-requires : tie.Need-pass-answer-requires
 pass-answer-requires c κs = search needs
@@ -54,7 +54,7 @@ pub found-spec : {M : Type 1} → statement M
 found-spec =
     tie.close
     (tie.spec
-    read-size-requires
+    read-m-requires
     pass-answer-requires
     returns
     pass-answer-requires-2

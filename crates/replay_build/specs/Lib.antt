@@ -1,0 +1,2 @@
+-- `Shape`: the numbers of a build in a list.
+pub mod Shape

@@ -1,0 +1,2 @@
+-- `Shape`: the numbers of a descent in a list.
+pub mod Shape

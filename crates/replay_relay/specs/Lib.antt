@@ -1,0 +1,2 @@
+-- `Shape`: the numbers of a relay in a list.
+pub mod Shape

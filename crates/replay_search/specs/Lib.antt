@@ -1,0 +1,2 @@
+-- `Shape`: the numbers of a search in a list.
+pub mod Shape
