@@ -80,31 +80,40 @@ fn print_fault(c: Cursor) {
     }
 }
 
-fn read_list(fd: i32) {
+// What the list that an argument names has, behind its name.
+fn tell(i: usize) {
+    let mut path = io::buffer();
+    let n = os::arg(i, &mut path);
+    io::write_all(STDOUT_FILENO, &path[..n]);
+    io::write_all(STDOUT_FILENO, b": ");
     let mut room = cases::room();
-    let n = io::read_full(fd, &mut room);
-    let t = counted(&room[..n]);
+    let long = tallies::read_list(i, &mut room);
+    let t = counted(&room[..long]);
     print(t);
     print_fault(t.cursor);
 }
 
-fn open_list(i: usize) {
+// The number that the system gives to a list: the first that no open file has.
+fn free_number(i: usize) -> i32 {
     let mut path = io::buffer();
     let n = os::arg(i, &mut path);
     let fd = os::open_read(&path[..n]);
-    if fd < 0 {
-        os::fail(&path[..n]);
-        return;
-    }
-    io::write_all(STDOUT_FILENO, &path[..n]);
-    io::write_all(STDOUT_FILENO, b": ");
-    read_list(fd);
     libc::close(fd);
+    fd
+}
+
+// A list that was left open would keep its number from the file that is opened next.
+fn read_list(i: usize) {
+    let first = free_number(i);
+    tell(i);
+    if first == free_number(i) {
+        io::write_all(STDOUT_FILENO, b"closed\n");
+    }
 }
 
 fn main() {
     let count = os::arg_count();
     for i in 1..count {
-        open_list(i);
+        read_list(i);
     }
 }

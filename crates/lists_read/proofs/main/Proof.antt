@@ -16,8 +16,8 @@ arg-count-requires c κs = search needs
 loop-holds : tie.Need-loop-holds Inv-loop μ-loop
 loop-holds c = tt
 
-open-list-requires : tie.Need-open-list-requires Inv-loop μ-loop
-open-list-requires c κs = search needs
+read-list-requires : tie.Need-read-list-requires Inv-loop μ-loop
+read-list-requires c κs = search needs
 
 add-i : tie.Need-add-i Inv-loop μ-loop
 add-i c = search needs
@@ -39,7 +39,7 @@ main-spec =
     μ-loop
     arg-count-requires
     loop-holds
-    open-list-requires
+    read-list-requires
     add-i
     loop-less
     loop-again
