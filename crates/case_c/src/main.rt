@@ -23,7 +23,7 @@ fn params_of(index_size: usize) -> SsgParams
 }
 
 fn say(name: &[u8], index_size: usize, graph: &[u32]) {
-    let mut page = [0u8; 128];
+    let mut page: [u8; 128] = [0; 128];
     let named = pages::put(&mut page, 0, name);
     let behind = refusals::put_graph(&mut page, named, graph, index_size);
     let end = pages::put(&mut page, behind, b"\n");
@@ -33,8 +33,8 @@ fn say(name: &[u8], index_size: usize, graph: &[u32]) {
 // The graph of the squares' lanes, in as many places as are lent for it.
 fn square(name: &[u8], index_size: usize, graph: &mut [u32]) {
     let lanes = lanes();
-    let mut scratch_u = [0u32; 4176];
-    let mut scratch_f = [0.0f32; 4176];
+    let mut scratch_u: [u32; 4176] = [0; 4176];
+    let mut scratch_f: [f32; 4176] = [0.0; 4176];
     let params = params_of(index_size);
     let answer = build::build(params, 1, 4, &lanes, graph, &mut scratch_u, &mut scratch_f);
     let Answer::Done = answer else {
@@ -44,8 +44,8 @@ fn square(name: &[u8], index_size: usize, graph: &mut [u32]) {
 }
 
 fn main() {
-    let mut narrow = [0u32; 8];
+    let mut narrow: [u32; 8] = [0; 8];
     square(b"index_size 2", 2, &mut narrow);
-    let mut wide = [0u32; 12];
+    let mut wide: [u32; 12] = [0; 12];
     square(b"index_size 3", 3, &mut wide);
 }

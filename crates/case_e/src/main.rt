@@ -43,10 +43,10 @@ fn main() {
     let graph = graph();
     let roots = roots();
     let query = query();
-    let mut nodes = [0u32; 2];
-    let mut bits = [0u32; 2];
-    let mut scratch_u = [0u32; 1040];
-    let mut scratch_f = [0.0f32; 1040];
+    let mut nodes: [u32; 2] = [0; 2];
+    let mut bits: [u32; 2] = [0; 2];
+    let mut scratch_u: [u32; 1040] = [0; 1040];
+    let mut scratch_f: [f32; 1040] = [0.0; 1040];
     let a = search::search(
         1,
         4,

@@ -26,7 +26,7 @@ fn put(before: &[u8], n: usize) {
 }
 
 fn say_refusal(r: Refusal) {
-    let mut page = [0u8; 64];
+    let mut page: [u8; 64] = [0; 64];
     let end = refusals::put_refusal(&mut page, 0, r);
     say(pages::text(&page, end));
 }
@@ -186,8 +186,8 @@ fn ask(
     table: u32,
     asked: usize,
 ) {
-    let mut nodes = [0u32; 64];
-    let mut bits = [0u32; 64];
+    let mut nodes: [u32; 64] = [0; 64];
+    let mut bits: [u32; 64] = [0; 64];
     let roots = cases::least(g.roots, wholes.len());
     let a = look(
         g,
@@ -343,7 +343,7 @@ fn with_parts(text: &[u8], g: Game, wholes: &[u32], values: &[f32]) {
 }
 
 fn name_counters(text: &[u8]) {
-    let mut wholes = [0u32; 388];
+    let mut wholes: [u32; 388] = [0; 388];
     let mut values = rooms::values_room();
     let g = games::read(text, &mut wholes, &mut values);
     if g.fault != games::FINE {

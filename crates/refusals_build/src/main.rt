@@ -80,7 +80,7 @@ fn told(
     words: &[u32],
     floats: &[f32],
 ) {
-    let mut page = [0u8; 4096];
+    let mut page: [u8; 4096] = [0; 4096];
     let case = pages::put_word(&mut page, 0, b"case ", number);
     let end = put_rest(&mut page, case, answer, index_size, graph, words, floats);
     io::write_all(STDOUT_FILENO, pages::text(&page, end));
@@ -104,13 +104,13 @@ fn called(
 
 // A call on the first of given lanes and on places of our own, as many as it says.
 fn lend(number: u32, c: Call, lanes: &[f32]) {
-    let mut graph = [0u32; 4096];
-    let mut words = [0u32; 36864];
-    let mut floats = [0.0f32; 36864];
+    let mut graph: [u32; 4096] = [0; 4096];
+    let mut words: [u32; 36864] = [0; 36864];
+    let mut floats: [f32; 36864] = [0.0; 36864];
     let lanes_long = cases::least(c.lanes, lanes.len());
-    let graph_long = cases::least(c.graph, 4096);
-    let words_long = cases::least(c.words, 36864);
-    let floats_long = cases::least(c.floats, 36864);
+    let graph_long = cases::least(c.graph, graph.len());
+    let words_long = cases::least(c.words, words.len());
+    let floats_long = cases::least(c.floats, floats.len());
     called(
         number,
         c,
@@ -143,8 +143,8 @@ fn call_of(xs: [u32; 10]) -> Call {
 
 // A case: its numbers, and its first lanes after their number; lane i behind them is i.
 fn one_case(text: &[u8], c: Cursor, number: u32) -> Cursor {
-    let mut xs = [0u32; 10];
-    let mut lanes = [0.0f32; 4096];
+    let mut xs: [u32; 10] = [0; 10];
+    let mut lanes: [f32; 4096] = [0.0; 4096];
     refusals::fill_floats(&mut lanes, 0.0);
     let numbers = cases::read_words(text, c, &mut xs);
     let given = refusals::read_lanes(text, numbers, &mut lanes);
@@ -154,7 +154,7 @@ fn one_case(text: &[u8], c: Cursor, number: u32) -> Cursor {
 
 // The last line: how many cases there were, and the reader's fault.
 fn say_end(passed: u32, c: Cursor) {
-    let mut page = [0u8; 64];
+    let mut page: [u8; 64] = [0; 64];
     let end = refusals::put_end(&mut page, 0, passed, c);
     io::write_all(STDOUT_FILENO, pages::text(&page, end));
 }

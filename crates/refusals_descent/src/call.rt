@@ -227,7 +227,7 @@ fn put_number(page: &mut [u8], c: Call, number: u32) -> usize {
 
 // The line of a call.
 fn say(number: u32, c: Call, answer: IterateAnswer, state_u: &[u32], left: Left) {
-    let mut page = [0u8; 4096];
+    let mut page: [u8; 4096] = [0; 4096];
     let call = put_number(&mut page, c, number);
     let behind = put_answer(&mut page, call, c, answer, state_u);
     let end = refusals::put_left(&mut page, behind, left);

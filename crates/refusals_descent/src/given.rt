@@ -36,7 +36,7 @@ fn call_of(xs: [u32; 12]) -> Call
 pub fn read_call(text: &[u8], c: Cursor) -> Read
     ensures { λ r. ⌜ r ≡ callAt (now (text .entry)) c ⌝ }
 {
-    let mut xs = [0u32; 12];
+    let mut xs: [u32; 12] = [0; 12];
     let cursor = cases::read_words(text, c, &mut xs);
     Read {
         call: call_of(xs),

@@ -51,9 +51,9 @@ fn lend(
     state_u: &mut [u32],
     state_f: &mut [f32],
 ) {
-    let mut draws = [0u32; 513];
-    let mut words = [0u32; 8192];
-    let mut floats = [0.0f32; 8192];
+    let mut draws: [u32; 513] = [0; 513];
+    let mut words: [u32; 8192] = [0; 8192];
+    let mut floats: [f32; 8192] = [0.0; 8192];
     refusals::fill_words(&mut draws, 6);
     cut(
         number,
@@ -71,9 +71,9 @@ fn lend(
 
 fn one_call(text: &[u8], c: Cursor, number: u32) -> Cursor {
     let read = given::read_call(text, c);
-    let mut lanes = [0.0f32; 256];
-    let mut words = [0u32; 2098];
-    let mut floats = [0.0f32; 256];
+    let mut lanes: [f32; 256] = [0.0; 256];
+    let mut words: [u32; 2098] = [0; 2098];
+    let mut floats: [f32; 256] = [0.0; 256];
     let a = refusals::read_lanes(text, read.cursor, &mut lanes);
     call::write_state(read.call, &mut words, &mut floats);
     let b = given::harm_words(text, a.cursor, &mut words);
@@ -111,7 +111,7 @@ fn every_call(text: &[u8]) -> Cursor {
 
 // How many numbers were read, their sum, and the reader's fault.
 fn say_end(c: Cursor) {
-    let mut page = [0u8; 64];
+    let mut page: [u8; 64] = [0; 64];
     let count = pages::put_word(&mut page, 0, b"numbers: ", c.count);
     let sum = pages::put_word(&mut page, count, b", sum: ", c.sum);
     let fault = pages::put_word(&mut page, sum, b", fault: ", c.fault);
@@ -147,8 +147,8 @@ fn called(
     words: &mut [u32],
     floats: &mut [f32],
 ) {
-    let none_u = [0u32; 0];
-    let none_f = [0.0f32; 0];
+    let none_u: [u32; 0] = [0; 0];
+    let none_f: [f32; 0] = [0.0; 0];
     call::called(
         1024,
         most(begins),
@@ -165,12 +165,12 @@ fn called(
 
 // Nodes in a line. Draw j is j, so nodes 2i and 2i + 1 meet twice each, and end in each other's list.
 fn most_nodes() {
-    let mut lanes = [0.0f32; 1024];
-    let mut draws = [0u32; 2048];
-    let mut state_u = [0u32; 300032];
-    let mut state_f = [0.0f32; 1024];
-    let mut words = [0u32; 528384];
-    let mut floats = [0.0f32; 528384];
+    let mut lanes: [f32; 1024] = [0.0; 1024];
+    let mut draws: [u32; 2048] = [0; 2048];
+    let mut state_u: [u32; 300032] = [0; 300032];
+    let mut state_f: [f32; 1024] = [0.0; 1024];
+    let mut words: [u32; 528384] = [0; 528384];
+    let mut floats: [f32; 528384] = [0.0; 528384];
     refusals::fill_floats(&mut lanes, 0.0);
     refusals::fill_words(&mut draws, 0);
     called(

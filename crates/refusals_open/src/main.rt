@@ -67,7 +67,7 @@ fn told(
     scratch_u: &[u32],
     scratch_f: &[f32],
 ) {
-    let mut page = [0u8; 128];
+    let mut page: [u8; 128] = [0; 128];
     let case = pages::put_word(&mut page, 0, b"case ", number);
     let end = put_rest(&mut page, case, answer, words, floats, scratch_u, scratch_f);
     io::write_all(STDOUT_FILENO, pages::text(&page, end));
@@ -106,14 +106,14 @@ fn called(
 
 // The call on the parts of our places that are as long as it says.
 fn in_places(number: u32, c: Call, lanes: &[f32], nodes: &[u32], dists: &[f32], jobs: &[u32]) {
-    let mut words = [0u32; 1540];
-    let mut floats = [0.0f32; 576];
-    let mut scratch_u = [0u32; 6145];
-    let mut scratch_f = [0.0f32; 6145];
-    let words_long = cases::least(c.words, 1540);
-    let floats_long = cases::least(c.floats, 576);
-    let u_long = cases::least(c.scratch_u, 6145);
-    let f_long = cases::least(c.scratch_f, 6145);
+    let mut words: [u32; 1540] = [0; 1540];
+    let mut floats: [f32; 576] = [0.0; 576];
+    let mut scratch_u: [u32; 6145] = [0; 6145];
+    let mut scratch_f: [f32; 6145] = [0.0; 6145];
+    let words_long = cases::least(c.words, words.len());
+    let floats_long = cases::least(c.floats, floats.len());
+    let u_long = cases::least(c.scratch_u, scratch_u.len());
+    let f_long = cases::least(c.scratch_f, scratch_f.len());
     called(
         number,
         c,
@@ -144,8 +144,8 @@ fn cut(number: u32, c: Call, lanes: &[f32], nodes: &[u32], dists: &[f32], jobs: 
 
 // A call on given lanes and jobs, on lists that are unfilled but for two entries.
 fn lend(number: u32, c: Call, lanes: &[f32], jobs: &[u32], e: Entry, f: Entry) {
-    let mut nodes = [4u32; 256];
-    let mut dists = [EMPTY; 256];
+    let mut nodes: [u32; 256] = [4; 256];
+    let mut dists: [f32; 256] = [EMPTY; 256];
     relays::put_word(&mut nodes, e.at, e.node);
     relays::put_float(&mut dists, e.at, e.dist);
     relays::put_word(&mut nodes, f.at, f.node);
@@ -177,9 +177,9 @@ fn entry_of(at: u32, node: u32, bits: u32) -> Entry {
 
 // A case: its numbers and two entries, then lanes and jobs, each after their number.
 fn one_case(text: &[u8], c: Cursor, number: u32) -> Cursor {
-    let mut xs = [0u32; 15];
-    let mut lanes = [0.0f32; 1025];
-    let mut jobs = [0u32; 130];
+    let mut xs: [u32; 15] = [0; 15];
+    let mut lanes: [f32; 1025] = [0.0; 1025];
+    let mut jobs: [u32; 130] = [0; 130];
     let numbers = cases::read_words(text, c, &mut xs);
     let l = refusals::read_lanes(text, numbers, &mut lanes);
     let j = refusals::read_run(text, l.cursor, &mut jobs);
@@ -200,7 +200,7 @@ fn one_case(text: &[u8], c: Cursor, number: u32) -> Cursor {
 
 // The last line: how many cases there were, and the reader's fault.
 fn say_end(passed: u32, c: Cursor) {
-    let mut page = [0u8; 64];
+    let mut page: [u8; 64] = [0; 64];
     let end = refusals::put_end(&mut page, 0, passed, c);
     io::write_all(STDOUT_FILENO, pages::text(&page, end));
 }

@@ -38,10 +38,10 @@ struct State {
 fn opened(words: &mut [u32], floats: &mut [f32]) {
     let lanes = [0.0f32, 1.0, 3.0, 7.0];
     let jobs = [0u32, 1, 0, 3, 0, 2, 1, 1];
-    let nodes = [4u32; 8];
-    let dists = [EMPTY; 8];
-    let mut scratch_u = [0u32; 6144];
-    let mut scratch_f = [0.0f32; 6144];
+    let nodes: [u32; 8] = [4; 8];
+    let dists: [f32; 8] = [EMPTY; 8];
+    let mut scratch_u: [u32; 6144] = [0; 6144];
+    let mut scratch_f: [f32; 6144] = [0.0; 6144];
     relay_opening::open(
         1,
         4,
@@ -109,7 +109,7 @@ fn put_moved(page: &mut [u8], at: usize, answer: Answer) -> usize {
 }
 
 fn told_move(number: u32, answer: Answer, left: Left) {
-    let mut page = [0u8; 128];
+    let mut page: [u8; 128] = [0; 128];
     let case = pages::put_word(&mut page, 0, b"case ", number);
     let call = pages::put(&mut page, case, b", move");
     let behind = put_moved(&mut page, call, answer);
@@ -155,8 +155,8 @@ fn move_cut(
 
 // A move on a state, beside a twin of it.
 fn lend_move(number: u32, l: Lent, s: State) {
-    let mut words = [0u32; 1293];
-    let mut floats = [0.0f32; 329];
+    let mut words: [u32; 1293] = [0; 1293];
+    let mut floats: [f32; 329] = [0.0; 329];
     make(s, &mut words, &mut floats);
     let twin_words = words;
     let twin_floats = floats;
@@ -208,7 +208,7 @@ fn put_closed(
 }
 
 fn told_close(number: u32, answer: Answer, nodes: &[u32], dists: &[f32], reports: &[u32]) {
-    let mut page = [0u8; 256];
+    let mut page: [u8; 256] = [0; 256];
     let case = pages::put_word(&mut page, 0, b"case ", number);
     let call = pages::put(&mut page, case, b", close");
     let end = put_closed(&mut page, call, answer, nodes, dists, reports);
@@ -233,14 +233,14 @@ fn closed(
 
 // A close of parts that are as long as the call says.
 fn close_cut(number: u32, l: Lent, words: &[u32], floats: &[f32]) {
-    let mut nodes = [0u32; 9];
-    let mut dists = [0.0f32; 9];
-    let mut reports = [0u32; 129];
+    let mut nodes: [u32; 9] = [0; 9];
+    let mut dists: [f32; 9] = [0.0; 9];
+    let mut reports: [u32; 129] = [0; 129];
     let words_long = cases::least(l.words, words.len());
     let floats_long = cases::least(l.floats, floats.len());
-    let nodes_long = cases::least(l.nodes, 9);
-    let dists_long = cases::least(l.dists, 9);
-    let reports_long = cases::least(l.reports, 129);
+    let nodes_long = cases::least(l.nodes, nodes.len());
+    let dists_long = cases::least(l.dists, dists.len());
+    let reports_long = cases::least(l.reports, reports.len());
     closed(
         number,
         l,
@@ -254,8 +254,8 @@ fn close_cut(number: u32, l: Lent, words: &[u32], floats: &[f32]) {
 
 // A close of a state.
 fn lend_close(number: u32, l: Lent, s: State) {
-    let mut words = [0u32; 1293];
-    let mut floats = [0.0f32; 329];
+    let mut words: [u32; 1293] = [0; 1293];
+    let mut floats: [f32; 329] = [0.0; 329];
     make(s, &mut words, &mut floats);
     close_cut(number, l, &words, &floats);
 }
@@ -297,7 +297,7 @@ fn called(number: u32, kind: u32, l: Lent, s: State) {
 }
 
 fn one_case(text: &[u8], c: Cursor, number: u32, kind: u32) -> Cursor {
-    let mut xs = [0u32; 16];
+    let mut xs: [u32; 16] = [0; 16];
     let cursor = cases::read_words(text, c, &mut xs);
     called(number, kind, lent_of(xs), state_of(xs));
     cursor
@@ -305,7 +305,7 @@ fn one_case(text: &[u8], c: Cursor, number: u32, kind: u32) -> Cursor {
 
 // The last line: how many cases there were, and the reader's fault.
 fn say_end(passed: u32, c: Cursor) {
-    let mut page = [0u8; 64];
+    let mut page: [u8; 64] = [0; 64];
     let end = refusals::put_end(&mut page, 0, passed, c);
     io::write_all(STDOUT_FILENO, pages::text(&page, end));
 }

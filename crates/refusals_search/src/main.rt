@@ -79,7 +79,7 @@ fn told(
     words: &[u32],
     floats: &[f32],
 ) {
-    let mut page = [0u8; 2048];
+    let mut page: [u8; 2048] = [0; 2048];
     let case = pages::put_word(&mut page, 0, b"case ", number);
     let end = put_rest(&mut page, case, answer, nodes, bits, words, floats);
     io::write_all(STDOUT_FILENO, pages::text(&page, end));
@@ -120,14 +120,14 @@ fn called(
 
 // A call on what is given, on places of our own that are as long as it says.
 fn lend(number: u32, c: Call, lanes: &[f32], graph: &[u32], roots: &[u32], query: &[f32]) {
-    let mut nodes = [0u32; 65];
-    let mut bits = [0u32; 65];
-    let mut words = [0u32; 1284];
-    let mut floats = [0.0f32; 1284];
-    let nodes_long = cases::least(c.nodes, 65);
-    let bits_long = cases::least(c.bits, 65);
-    let words_long = cases::least(c.words, 1284);
-    let floats_long = cases::least(c.floats, 1284);
+    let mut nodes: [u32; 65] = [0; 65];
+    let mut bits: [u32; 65] = [0; 65];
+    let mut words: [u32; 1284] = [0; 1284];
+    let mut floats: [f32; 1284] = [0.0; 1284];
+    let nodes_long = cases::least(c.nodes, nodes.len());
+    let bits_long = cases::least(c.bits, bits.len());
+    let words_long = cases::least(c.words, words.len());
+    let floats_long = cases::least(c.floats, floats.len());
     called(
         number,
         c,
@@ -157,11 +157,11 @@ fn call_of(xs: [u32; 8]) -> Call {
 
 // A case: its numbers, then what is lent to be read, each run after its length.
 fn one_case(text: &[u8], c: Cursor, number: u32) -> Cursor {
-    let mut xs = [0u32; 8];
-    let mut lanes = [0.0f32; 65];
-    let mut graph = [0u32; 65];
-    let mut roots = [0u32; 65];
-    let mut query = [0.0f32; 2];
+    let mut xs: [u32; 8] = [0; 8];
+    let mut lanes: [f32; 65] = [0.0; 65];
+    let mut graph: [u32; 65] = [0; 65];
+    let mut roots: [u32; 65] = [0; 65];
+    let mut query: [f32; 2] = [0.0; 2];
     let numbers = cases::read_words(text, c, &mut xs);
     let l = refusals::read_lanes(text, numbers, &mut lanes);
     let g = refusals::read_run(text, l.cursor, &mut graph);
@@ -184,7 +184,7 @@ fn one_case(text: &[u8], c: Cursor, number: u32) -> Cursor {
 
 // The last line: how many cases there were, and the reader's fault.
 fn say_end(passed: u32, c: Cursor) {
-    let mut page = [0u8; 64];
+    let mut page: [u8; 64] = [0; 64];
     let end = refusals::put_end(&mut page, 0, passed, c);
     io::write_all(STDOUT_FILENO, pages::text(&page, end));
 }

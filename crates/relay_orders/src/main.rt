@@ -51,7 +51,7 @@ fn in_order(
     nodes: &mut [u32],
     dists: &mut [f32],
 ) -> u32 {
-    let mut reports = [0u32; 128];
+    let mut reports: [u32; 128] = [0; 128];
     order::fill(order, kind, jobs.len() / 2);
     run::whole(n, k, lanes, jobs, order, nodes, dists, &mut reports)
 }
@@ -65,7 +65,7 @@ fn by_kind(
     nodes: &mut [u32],
     dists: &mut [f32],
 ) -> u32 {
-    let mut order = [0u32; 512];
+    let mut order: [u32; 512] = [0; 512];
     let long = cases::least(cases::area(4, jobs.len()), 512);
     in_order(n, k, lanes, jobs, kind, &mut order[..long], nodes, dists)
 }
@@ -177,7 +177,7 @@ fn put_lists(nodes: &[u32], dists: &[f32]) {
 
 // The reports of three jobs.
 fn say_reports(reports: &[u32]) {
-    let mut page = [0u8; 128];
+    let mut page: [u8; 128] = [0; 128];
     let named = pages::put(&mut page, 0, b", reports");
     let listed = refusals::put_words(&mut page, named, reports, 6);
     let end = pages::put(&mut page, listed, b"\n");
@@ -188,9 +188,9 @@ fn say_reports(reports: &[u32]) {
 fn square(name: &[u8], order: &[u32]) {
     let lanes = [0.0f32, 1.0, 3.0, 7.0];
     let jobs = [0u32, 1, 0, 3, 0, 2];
-    let mut nodes = [4u32; 8];
-    let mut dists = [EMPTY; 8];
-    let mut reports = [0u32; 128];
+    let mut nodes: [u32; 8] = [4; 8];
+    let mut dists: [f32; 8] = [EMPTY; 8];
+    let mut reports: [u32; 128] = [0; 128];
     let refused = run::whole(
         4,
         2,
@@ -210,10 +210,10 @@ fn square(name: &[u8], order: &[u32]) {
 }
 
 fn squares() {
-    let mut one = [0u32; 24];
+    let mut one: [u32; 24] = [0; 24];
     order::fill(&mut one, 0, 3);
     square(b"I, one job at a time:", &one);
-    let mut round = [0u32; 24];
+    let mut round: [u32; 24] = [0; 24];
     order::fill(&mut round, 1, 3);
     square(b"I, a step of each in turn:", &round);
     let last = [
@@ -261,14 +261,14 @@ fn with_square(t: Tally) -> Tally {
 
 // Twelve jobs on the lists that others left.
 fn with_more(k: usize, seed: u32, lanes: &[f32], given: Lists, t: Tally) -> Tally {
-    let mut jobs = [0u32; 24];
+    let mut jobs: [u32; 24] = [0; 24];
     order::fill_drawn(&mut jobs, more(seed, 2), 6);
     on_lists(6, k, lanes, &jobs, given, t)
 }
 
 // A game of six nodes: twelve jobs on unfilled lists, and twelve on what these left.
 fn with_jobs(k: usize, seed: u32, lanes: &[f32], t: Tally) -> Tally {
-    let mut jobs = [0u32; 24];
+    let mut jobs: [u32; 24] = [0; 24];
     order::fill_drawn(&mut jobs, more(seed, 1), 6);
     let half = on_lists(6, k, lanes, &jobs, unfilled(6), t);
     let e = ended(6, k, lanes, &jobs, unfilled(6), 0);
@@ -277,7 +277,7 @@ fn with_jobs(k: usize, seed: u32, lanes: &[f32], t: Tally) -> Tally {
 }
 
 fn with_game(k: usize, seed: u32, t: Tally) -> Tally {
-    let mut lanes = [0.0f32; 6];
+    let mut lanes: [f32; 6] = [0.0; 6];
     order::fill_lanes(&mut lanes, seed);
     with_jobs(k, seed, &lanes, t)
 }

@@ -105,7 +105,7 @@ pub fn fill_lanes(lanes: &mut [f32], seed: u32)
 fn shuffle(order: &mut [u32], seed: u32)
     ensures { λ _. ⌜ now (order .exit) ≡ shuffled seed (now (order .entry)) ⌝ }
 {
-    let mut draws = [0u32; 512];
+    let mut draws: [u32; 512] = [0; 512];
     fill_drawn(&mut draws, seed, 65536);
     if order.len() <= 512 {
         shuffles::shuffle(order, &draws, 0);

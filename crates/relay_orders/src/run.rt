@@ -28,8 +28,8 @@ fn opened(
 ) -> u32
     ensures { λ r. ⌜ ran (now (words .exit)) (now (floats .exit)) r ≡ openedOf n k (now (lanes .entry)) (now (nodes .entry)) (now (dists .entry)) (now (jobs .entry)) (now (words .entry)) (now (floats .entry)) ⌝ }
 {
-    let mut scratch_u = [JUNK; 8192];
-    let mut scratch_f = [1.5f32; 8192];
+    let mut scratch_u: [u32; 8192] = [JUNK; 8192];
+    let mut scratch_f: [f32; 8192] = [1.5; 8192];
     let answer = relay_opening::open(
         1,
         n,
@@ -92,8 +92,8 @@ pub fn whole(
 ) -> u32
     ensures { λ r. ⌜ relayed r (now (nodes .exit)) (now (dists .exit)) (now (reports .exit)) ≡ wholeOf n k (now (lanes .entry)) (now (jobs .entry)) (now (order .entry)) (now (nodes .entry)) (now (dists .entry)) (now (reports .entry)) ⌝ }
 {
-    let mut words = [JUNK; 2048];
-    let mut floats = [1.5f32; 1024];
+    let mut words: [u32; 2048] = [JUNK; 2048];
+    let mut floats: [f32; 1024] = [1.5; 1024];
     let words_long = cases::least(relays::words_long(n, k), 2048);
     let floats_long = cases::least(relays::floats_long(n, k), 1024);
     in_state(

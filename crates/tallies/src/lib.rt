@@ -112,7 +112,7 @@ fn put_differs(page: &mut [u8], at: usize, differs: u32) -> usize
 }
 
 fn say(case: u32, differs: u32) {
-    let mut page = [0u8; 64];
+    let mut page: [u8; 64] = [0; 64];
     let number = pages::put_word(&mut page, 0, b"case ", case);
     let end = put_differs(&mut page, number, differs);
     io::write_all(STDOUT_FILENO, pages::text(&page, end));
