@@ -1,88 +1,23 @@
 // Replays the oracle's relays on lent places full of junk, and compares the list that each move leaves, the lists at the end and the reports.
 use cases::Cursor;
+use left::JUNK;
 use libc::STDOUT_FILENO;
 use rules::Answer;
 use shape::Shape;
 use tallies::Outcome;
 use tallies::Tally;
 
+mod left;
 mod shape;
 
 // The kind of a relay in a list.
 const RELAY: u32 = 5;
-// What lent places hold before a call.
-const JUNK: u32 = 0xCDCD_CDCD;
 
 fn done(answer: Answer) -> bool {
     match answer {
         Answer::Done => true,
         Answer::Refused(_) => false,
     }
-}
-
-// The outcome with two slices beside the list's: nodes, and distances by their bits.
-fn beside(text: &[u8], o: Outcome, nodes: &[u32], dists: &[f32]) -> Outcome {
-    let a = replays::compare(text, o.cursor, nodes);
-    let b = relays::compare_bits(text, a.cursor, dists);
-    let p = tallies::at(o, b.cursor);
-    let q = tallies::and(p, a.at == nodes.len(), tallies::NODES);
-    tallies::and(q, b.at == dists.len(), tallies::BITS)
-}
-
-// A list that our places have no room for; the list's entries are passed.
-fn outside(text: &[u8], o: Outcome, long: usize) -> Outcome {
-    let p = tallies::at(o, cases::pass(text, o.cursor, cases::area(2, long)));
-    tallies::and(p, false, tallies::LENGTH)
-}
-
-// A list in its room, of as many entries as the list of answers says.
-fn in_room(
-    text: &[u8],
-    o: Outcome,
-    from: usize,
-    long: usize,
-    words: &[u32],
-    floats: &[f32],
-) -> Outcome {
-    let to = std::num::wrapping_add_usize(from, long);
-    if to < from {
-        return outside(text, o, long);
-    }
-    if words.len() < to {
-        return outside(text, o, long);
-    }
-    if floats.len() < to {
-        return outside(text, o, long);
-    }
-    beside(text, o, &words[from..to], &floats[from..to])
-}
-
-// The word at a place; junk where there is none.
-fn word_at(words: &[u32], at: usize) -> u32 {
-    if words.len() <= at {
-        return JUNK;
-    }
-    words[at]
-}
-
-// The list of node `node` as a move left it, beside the list's.
-fn left(text: &[u8], o: Outcome, s: Shape, node: usize, words: &[u32], floats: &[f32]) -> Outcome {
-    let len = shape::read_entries(text, o.cursor);
-    let p = tallies::at(o, len.cursor);
-    let ours = word_at(words, relays::length_at(s.n, s.k, node));
-    let q = tallies::and(p, ours == len.value as u32, tallies::LENGTH);
-    let from = relays::list_at(s.k, node);
-    in_room(text, q, from, len.value, words, floats)
-}
-
-// The node whose list a job's last step concerned: u in its first four steps, v in its last four.
-fn concerned(s: Shape, job: usize, jobs: &[u32], words: &[u32]) -> usize {
-    let steps = std::num::wrapping_add_usize(relays::job_at(s.n, s.k, job), 2);
-    let u = cases::area(2, job);
-    if word_at(words, steps) <= 4 {
-        return relays::index(word_at(jobs, u));
-    }
-    relays::index(word_at(jobs, std::num::wrapping_add_usize(u, 1)))
 }
 
 fn moved(
@@ -96,8 +31,8 @@ fn moved(
 ) -> Outcome {
     let answer = relay_move::move_job(s.n, s.k, job, words, floats);
     let p = tallies::and(o, done(answer), tallies::REFUSED);
-    let node = concerned(s, job, jobs, words);
-    left(text, p, s, node, words, floats)
+    let node = left::concerned(s, job, jobs, words);
+    left::left(text, p, s, node, words, floats)
 }
 
 // The moves in their order.
@@ -120,15 +55,6 @@ fn run(
     p
 }
 
-// The reports beside the list's; further places are unchanged.
-fn reported(text: &[u8], o: Outcome, count: usize, reports: &[u32]) -> Outcome {
-    let long = cases::least(count, reports.len());
-    let a = replays::compare(text, o.cursor, &reports[..long]);
-    let p = tallies::at(o, a.cursor);
-    let q = tallies::and(p, a.at == long, tallies::COUNT);
-    tallies::and(q, replays::all_words(reports, long, JUNK), tallies::BEYOND)
-}
-
 // The close, on places of the lists' length.
 fn closed(
     text: &[u8],
@@ -143,8 +69,8 @@ fn closed(
     let mut reports: [u32; 128] = [JUNK; 128];
     let answer = relay_close::close(s.n, s.k, words, floats, nodes, dists, &mut reports);
     let p = tallies::and(o, done(answer), tallies::REFUSED);
-    let q = beside(text, p, nodes, dists);
-    reported(text, q, count, &reports)
+    let q = left::beside(text, p, nodes, dists);
+    left::reported(text, q, count, &reports)
 }
 
 fn close_in(

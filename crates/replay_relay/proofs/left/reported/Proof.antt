@@ -1,9 +1,11 @@
--- `replay_relay::reported` is safe: each part is as long as it says. Assumes nothing.
+-- `replay_relay::left::reported` meets its contract. Assumes nothing.
+use Rattle.replay_relay.specs.Left.{reportedAt}
+use Rattle.replay_relay.proofs.Laws.{cut-long}
 use native.Mathlib.Omega.{arith}
 use lib.ListN.{length-take}
 use borrow.Author.Needs.{needs}
-use Rattle.replay_relay.proofs.reported.Statement.{statement}
-use Rattle.replay_relay.proofs.reported.Tie as tie
+use Rattle.replay_relay.proofs.left.reported.Statement.{statement}
+use Rattle.replay_relay.proofs.left.reported.Tie as tie
 
 least-requires : tie.Need-least-requires
 least-requires c κs = search needs
@@ -27,7 +29,10 @@ and-requires-2 : tie.Need-and-requires-2
 and-requires-2 c κs = search needs
 
 returns : tie.Need-returns
-returns c = search needs
+unfolding reportedAt
+returns c =
+    let compared = c .before .before .before .before .before in
+    rw (c .and2 .ensures, c .before .all-words .ensures, c .before .before .and .ensures, c .before .before .before .before .at .ensures, compared .compare .ensures .0, compared .compare .ensures .1, compared .before .before .least .ensures, cut-long)
 
 pub reported-spec : {M : Type 1} → statement M
 reported-spec =
