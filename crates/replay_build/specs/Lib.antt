@@ -1,2 +1,3 @@
--- `Shape`: the numbers of a build in a list.
+-- `Shape`: the numbers of a build in a list. `Left`: what a build left, beside the list's.
 pub mod Shape
+pub mod Left

@@ -6,30 +6,13 @@ use shape::Shape;
 use tallies::Outcome;
 use tallies::Tally;
 
+mod left;
 mod shape;
 
 // The kind of a build in a list.
 const BUILD: u32 = 1;
 // What lent places hold before a call.
 const JUNK: u32 = 0xCDCD_CDCD;
-
-// Passes the lists after steps 1, 4 and 5: the graph says what they led to.
-fn pass_steps(text: &[u8], c: Cursor, n: usize, graph_long: usize) -> Cursor {
-    let exact = kinds::pass_runs(text, c, n);
-    cases::pass(text, exact, cases::area(4, graph_long))
-}
-
-// The graph beside the list's.
-fn beside(text: &[u8], c: Cursor, n: usize, graph: &[u32], differs: u32) -> Outcome {
-    let at = pass_steps(text, c, n, graph.len());
-    let a = replays::compare(text, at, graph);
-    let cursor = a.cursor;
-    let o = Outcome {
-        differs: differs,
-        cursor: cursor,
-    };
-    tallies::and(o, a.at == graph.len(), tallies::NODES)
-}
 
 // The call. `c` is the place of the answer in the list.
 fn built(text: &[u8], c: Cursor, s: Shape, lanes: &[f32], graph: &mut [u32]) -> Outcome {
@@ -47,10 +30,10 @@ fn built(text: &[u8], c: Cursor, s: Shape, lanes: &[f32], graph: &mut [u32]) -> 
     );
     match answer {
         Answer::Done => {
-            let o = beside(text, c, s.n, graph, tallies::NOTHING);
+            let o = left::beside(text, c, s.n, graph, tallies::NOTHING);
             tallies::with_scratch(o, &words, &floats)
         }
-        Answer::Refused(_) => beside(text, c, s.n, graph, tallies::REFUSED),
+        Answer::Refused(_) => left::beside(text, c, s.n, graph, tallies::REFUSED),
     }
 }
 

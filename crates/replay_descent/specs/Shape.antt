@@ -1,8 +1,8 @@
 -- The numbers of a descent in a list, each with the most that it may be. Assumes nothing.
 use mathlib.Core.List.{List}
-use Prim.Native.Nat.{ℕ}
+use Prim.Native.Nat.{ℕ, _+_, _/_}
 use Rattle.cases.specs.declared.Cursor.{Cursor}
-use Rattle.cases.specs.Text.{sizeAt}
+use Rattle.cases.specs.Text.{sizeAt, areaOf}
 use Rattle.replay_descent.specs.declared.shape.Shape.{Shape}
 
 unfoldable pub shapeAt : List ℕ → Cursor → Shape
@@ -12,3 +12,7 @@ shapeAt text c =
     let k = sizeAt 64 text (n .cursor) in
     let s = sizeAt 64 text (k .cursor) in
     record { dimension = d .value; n = n .value; k = k .value; s = s .value; cursor = s .cursor }
+
+-- "nk + 260n + (n*n + 31)/32 words"
+unfoldable pub wordsLong : ℕ → ℕ → ℕ
+wordsLong n k = areaOf n k + areaOf 260 n + (areaOf n n + 31) / 32

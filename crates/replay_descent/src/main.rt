@@ -1,6 +1,5 @@
 // Replays the oracle's descents on lent places full of junk, and compares what every call answers and leaves with what the Rust did.
 use cases::Cursor;
-use cases::Size;
 use libc::STDOUT_FILENO;
 use rules::Answer;
 use rules::IterateAnswer;
@@ -8,6 +7,7 @@ use shape::Shape;
 use tallies::Outcome;
 use tallies::Tally;
 
+mod left;
 mod shape;
 
 // The kinds of a descent and of a single iteration in a list.
@@ -23,42 +23,13 @@ struct Turned {
     draws: Cursor,
 }
 
-// The state beside the list's, whose words and floats are given.
-fn compared(
-    o: Outcome,
-    s: Shape,
-    state_u: &[u32],
-    state_f: &[f32],
-    words: &[u32],
-    floats: &[f32],
-) -> Outcome {
-    let lists = cases::area(s.n, s.k);
-    let p = tallies::and(o, states::same_first(state_u, words, lists), tallies::NODES);
-    let q = tallies::and(p, states::same_floats(state_f, floats), tallies::BITS);
-    tallies::and(q, states::same_words(state_u, words), tallies::WORDS)
-}
-
-// The state beside the list's, which is read into `words` and `floats`.
-fn beside_read(
-    text: &[u8],
-    o: Outcome,
-    s: Shape,
-    state_u: &[u32],
-    state_f: &[f32],
-    words: &mut [u32],
-    floats: &mut [f32],
-) -> Outcome {
-    let cursor = states::read_state(text, o.cursor, s.n, s.k, words, floats);
-    compared(tallies::at(o, cursor), s, state_u, state_f, words, floats)
-}
-
 // Places as long as the state's, for the list's.
 fn beside(text: &[u8], o: Outcome, s: Shape, state_u: &[u32], state_f: &[f32]) -> Outcome {
     let mut words: [u32; 12648] = [0; 12648];
     let mut floats: [f32; 192] = [0.0; 192];
     let words_long = cases::least(state_u.len(), words.len());
     let floats_long = cases::least(state_f.len(), floats.len());
-    beside_read(
+    left::beside_read(
         text,
         o,
         s,
@@ -67,21 +38,6 @@ fn beside(text: &[u8], o: Outcome, s: Shape, state_u: &[u32], state_f: &[f32]) -
         &mut words[..words_long],
         &mut floats[..floats_long],
     )
-}
-
-// A refused call: the state that the list has for it is passed.
-fn refused(text: &[u8], o: Outcome, c: Cursor, s: Shape) -> Outcome {
-    let p = tallies::at(o, kinds::pass_state(text, c, s.n, s.k));
-    tallies::and(p, false, tallies::REFUSED)
-}
-
-// An iteration's cost and total of new, beside the list's.
-fn counts(text: &[u8], o: Outcome, cost: usize, new: usize) -> Outcome {
-    let a = cases::read_word(text, o.cursor);
-    let b = cases::read_word(text, a.cursor);
-    let p = tallies::at(o, b.cursor);
-    let q = tallies::and(p, a.value as usize == cost, tallies::COUNT);
-    tallies::and(q, b.value as usize == new, tallies::COUNT)
 }
 
 // What an iteration answered and left, beside the list's from the cursor of `o` on.
@@ -95,9 +51,9 @@ fn told(
 ) -> Outcome {
     match answer {
         IterateAnswer::Iterated { cost, new } => {
-            beside(text, counts(text, o, cost, new), s, state_u, state_f)
+            beside(text, left::counts(text, o, cost, new), s, state_u, state_f)
         }
-        IterateAnswer::Refused(_) => refused(text, o, cases::pass(text, o.cursor, 2), s),
+        IterateAnswer::Refused(_) => left::refused(text, o, cases::pass(text, o.cursor, 2), s),
     }
 }
 
@@ -129,17 +85,6 @@ fn iterated(
     tallies::with_scratch(p, &words, &floats)
 }
 
-// The draws of a call, after their number, to the front of the slice.
-fn read_draws(text: &[u8], c: Cursor, draws: &mut [u32]) -> Size {
-    let count = cases::read_size(text, c, draws.len());
-    let long = cases::least(count.value, draws.len());
-    let cursor = cases::read_words(text, count.cursor, &mut draws[..long]);
-    Size {
-        value: long,
-        cursor: cursor,
-    }
-}
-
 // One iteration of a descent, with the draws at `c`.
 fn turn(
     text: &[u8],
@@ -151,7 +96,7 @@ fn turn(
     state_f: &mut [f32],
 ) -> Turned {
     let mut draws: [u32; 512] = [0; 512];
-    let drawn = read_draws(text, c, &mut draws);
+    let drawn = left::read_draws(text, c, &mut draws);
     let long = cases::least(drawn.value, draws.len());
     let cursor = drawn.cursor;
     Turned {
@@ -212,14 +157,7 @@ fn begun(
             let p = beside(text, o, s, state_u, state_f);
             tallies::with_scratch(p, &words, &floats)
         }
-        Answer::Refused(_) => refused(text, o, o.cursor, s),
-    }
-}
-
-fn fresh(c: Cursor) -> Outcome {
-    Outcome {
-        differs: tallies::NOTHING,
-        cursor: c,
+        Answer::Refused(_) => left::refused(text, o, o.cursor, s),
     }
 }
 
@@ -233,13 +171,13 @@ fn descended(
     state_f: &mut [f32],
 ) -> Outcome {
     let mut draws: [u32; 512] = [0; 512];
-    let drawn = read_draws(text, c, &mut draws);
+    let drawn = left::read_draws(text, c, &mut draws);
     let long = cases::least(drawn.value, draws.len());
     let count = shape::read_iterations(text, drawn.cursor);
     let behind = kinds::pass_runs(text, count.cursor, count.value);
     let o = begun(
         text,
-        fresh(behind),
+        left::fresh(behind),
         s,
         lanes,
         &draws[..long],
@@ -280,7 +218,7 @@ fn single(
     state_f: &mut [f32],
 ) -> Outcome {
     let draws = read_given(text, c, s, state_u, state_f);
-    let o = fresh(kinds::pass_runs(text, draws, 1));
+    let o = left::fresh(kinds::pass_runs(text, draws, 1));
     let t = turn(text, draws, o, s, lanes, state_u, state_f);
     t.outcome
 }
@@ -310,11 +248,9 @@ fn lent(
     state_u: &mut [u32],
     state_f: &mut [f32],
 ) -> Outcome {
-    let lists = cases::area(s.n, s.k);
-    let words = lists + cases::area(260, s.n) + (cases::area(s.n, s.n) + 31) / 32;
     let lanes_long = cases::least(cases::area(s.n, s.dimension), lanes.len());
-    let words_long = cases::least(words, state_u.len());
-    let floats_long = cases::least(lists, state_f.len());
+    let words_long = cases::least(shape::words_long(s.n, s.k), state_u.len());
+    let floats_long = cases::least(cases::area(s.n, s.k), state_f.len());
     given(
         text,
         kind,

@@ -1,7 +1,7 @@
 // The numbers of a descent in a list, each with the most that it may be.
 ghost use mathlib.Core.Path.{_≡_};
 ghost use Rattle.cases.specs.Text.{sizeAt};
-ghost use Rattle.replay_descent.specs.Shape.{shapeAt};
+ghost use Rattle.replay_descent.specs.Shape.{shapeAt, wordsLong};
 use cases::Cursor;
 use cases::Size;
 
@@ -37,4 +37,11 @@ pub fn read_iterations(text: &[u8], c: Cursor) -> Size
     ensures { λ r. ⌜ r ≡ sizeAt 16 (now (text .entry)) c ⌝ }
 {
     cases::read_size(text, c, 16)
+}
+
+/// How many words a state is.
+pub fn words_long(n: usize, k: usize) -> usize
+    ensures { λ r. ⌜ r ≡ wordsLong n k ⌝ }
+{
+    cases::area(n, k) + cases::area(260, n) + (cases::area(n, n) + 31) / 32
 }

@@ -1,2 +1,3 @@
--- `Shape`: the numbers of a search in a list.
+-- `Shape`: the numbers of a search in a list. `Left`: what a search found and left, beside the list's.
 pub mod Shape
+pub mod Left

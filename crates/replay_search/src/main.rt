@@ -1,61 +1,17 @@
 // Replays the oracle's searches on lent places full of junk, and compares what each answers and leaves with what the Rust answered.
 use cases::Cursor;
+use left::JUNK;
 use libc::STDOUT_FILENO;
 use rules::SearchAnswer;
 use shape::Shape;
 use tallies::Outcome;
 use tallies::Tally;
 
+mod left;
 mod shape;
 
 // The kind of a search in a list.
 const SEARCH: u32 = 2;
-// What lent places hold before a call.
-const JUNK: u32 = 0xCDCD_CDCD;
-
-// Passes the answer of a case: what differs is known.
-fn pass_answer(text: &[u8], c: Cursor, differs: u32) -> Outcome {
-    let m = shape::read_m(text, c);
-    let cursor = m.cursor;
-    Outcome {
-        differs: differs,
-        cursor: cases::pass(text, cursor, 2 * m.value + 1),
-    }
-}
-
-// The results and the takings, beside the list's.
-fn beside(text: &[u8], c: Cursor, nodes: &[u32], bits: &[u32], takings: usize) -> Outcome {
-    let a = replays::compare(text, c, nodes);
-    let b = replays::compare(text, a.cursor, bits);
-    let t = cases::read_word(text, b.cursor);
-    let cursor = t.cursor;
-    let o = Outcome {
-        differs: tallies::NOTHING,
-        cursor: cursor,
-    };
-    let p = tallies::and(o, a.at == nodes.len(), tallies::NODES);
-    let q = tallies::and(p, b.at == bits.len(), tallies::BITS);
-    tallies::and(q, t.value as usize == takings, tallies::COUNT)
-}
-
-// What was found, beside the list's answer; further places are unchanged.
-fn found(text: &[u8], c: Cursor, m: usize, takings: usize, nodes: &[u32], bits: &[u32]) -> Outcome {
-    let listed = shape::read_m(text, c);
-    let cursor = listed.cursor;
-    if m != listed.value {
-        return pass_answer(text, c, tallies::LENGTH);
-    }
-    if m > nodes.len() {
-        return pass_answer(text, c, tallies::LENGTH);
-    }
-    if m > bits.len() {
-        return pass_answer(text, c, tallies::LENGTH);
-    }
-    let o = beside(text, cursor, &nodes[..m], &bits[..m], takings);
-    let p = tallies::and(o, replays::all_words(nodes, m, JUNK), tallies::BEYOND);
-    tallies::and(p, replays::all_words(bits, m, JUNK), tallies::BEYOND)
-}
-
 // The call. `c` is the place of the answer in the list.
 fn searched(
     text: &[u8],
@@ -86,10 +42,10 @@ fn searched(
     );
     match answer {
         SearchAnswer::Found { m, takings } => {
-            let o = found(text, c, m, takings, &nodes, &bits);
+            let o = left::found(text, c, m, takings, &nodes, &bits);
             tallies::with_scratch(o, &words, &floats)
         }
-        SearchAnswer::Refused(_) => pass_answer(text, c, tallies::REFUSED),
+        SearchAnswer::Refused(_) => left::pass_answer(text, c, tallies::REFUSED),
     }
 }
 

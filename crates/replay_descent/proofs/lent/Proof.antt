@@ -8,29 +8,17 @@ use Rattle.replay_descent.proofs.lent.Tie as tie
 area-requires : tie.Need-area-requires
 area-requires c κs = search needs
 
-area-requires-2 : tie.Need-area-requires-2
-area-requires-2 c κs = search needs
-
-add-words : tie.Need-add-words
-add-words c = search needs
-
-area-requires-3 : tie.Need-area-requires-3
-area-requires-3 c κs = search needs
-
-add-words-2 : tie.Need-add-words-2
-add-words-2 c = search needs
-
-add-words-3 : tie.Need-add-words-3
-add-words-3 c = search needs
-
-area-requires-4 : tie.Need-area-requires-4
-area-requires-4 c κs = search needs
-
 least-requires : tie.Need-least-requires
 least-requires c κs = search needs
 
+words-long-requires : tie.Need-words-long-requires
+words-long-requires c κs = search needs
+
 least-requires-2 : tie.Need-least-requires-2
 least-requires-2 c κs = search needs
+
+area-requires-2 : tie.Need-area-requires-2
+area-requires-2 c κs = search needs
 
 least-requires-3 : tie.Need-least-requires-3
 least-requires-3 c κs = search needs
@@ -73,14 +61,10 @@ lent-spec =
     tie.close
     (tie.spec
     area-requires
-    area-requires-2
-    add-words
-    area-requires-3
-    add-words-2
-    add-words-3
-    area-requires-4
     least-requires
+    words-long-requires
     least-requires-2
+    area-requires-2
     least-requires-3
     slice-relend-prefix-given
     slice-aggregate-given

@@ -1,9 +1,12 @@
--- `replay_descent::read_draws` is safe: each part is as long as it says. Assumes nothing.
+-- `replay_descent::left::read_draws` meets its contract. Assumes nothing.
+use mathlib.Core.Path.{_≡_}
+use Prim.Native.Nat.{min}
 use native.Mathlib.Omega.{arith}
-use lib.ListN.{length-take}
+use lib.ListN.{length, length-take}
+use Rattle.replay_descent.specs.Left.{drawsAt}
 use borrow.Author.Needs.{needs}
-use Rattle.replay_descent.proofs.read_draws.Statement.{statement}
-use Rattle.replay_descent.proofs.read_draws.Tie as tie
+use Rattle.replay_descent.proofs.left.read_draws.Statement.{statement}
+use Rattle.replay_descent.proofs.left.read_draws.Tie as tie
 
 read-size-requires : tie.Need-read-size-requires
 read-size-requires c κs = search needs
@@ -24,7 +27,14 @@ same-length : tie.Need-same-length
 same-length c = search needs
 
 returns : tie.Need-returns
-returns c = search needs
+unfolding drawsAt
+returns c =
+    let words = c .before .before in
+    let long = words .before .before in
+    let size = long .before in
+    let count = size .read-size in
+    let whole : min (count .result .value) (length (size .before .before .before .args .draws .now)) ≡ count .result .value = omega (arith, count .ensures .1) in
+    rw (words .read-words .ensures .1, length-take, long .least .ensures, ← count .ensures .0, whole, whole)
 
 pub read-draws-spec : {M : Type 1} → statement M
 read-draws-spec =

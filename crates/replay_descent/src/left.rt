@@ -1,0 +1,83 @@
+// What the calls of a descent answered and left, beside the list's.
+ghost use mathlib.Core.Path.{_≡_};
+ghost use lib.ListN.{length, take, drop};
+ghost use Rattle.replay_descent.specs.Left.{comparedWith, besideAt, refusedAt, countsAt, freshAt, drawsAt};
+use crate::shape::Shape;
+use cases::Cursor;
+use cases::Size;
+use tallies::Outcome;
+
+// The state beside the list's, whose words and floats are given.
+fn compared(
+    o: Outcome,
+    s: Shape,
+    state_u: &[u32],
+    state_f: &[f32],
+    words: &[u32],
+    floats: &[f32],
+) -> Outcome
+    ensures { λ r. ⌜ r ≡ comparedWith o s (now («state_u» .entry)) (now («state_f» .entry)) (now (words .entry)) (now (floats .entry)) ⌝ }
+{
+    let lists = cases::area(s.n, s.k);
+    let p = tallies::and(o, states::same_first(state_u, words, lists), tallies::NODES);
+    let q = tallies::and(p, states::same_floats(state_f, floats), tallies::BITS);
+    tallies::and(q, states::same_words(state_u, words), tallies::WORDS)
+}
+
+/// The state beside the list's, which is read into `words` and `floats`.
+pub fn beside_read(
+    text: &[u8],
+    o: Outcome,
+    s: Shape,
+    state_u: &[u32],
+    state_f: &[f32],
+    words: &mut [u32],
+    floats: &mut [f32],
+) -> Outcome
+    ensures { λ r. ⌜ r ≡ besideAt (now (text .entry)) o s (now («state_u» .entry)) (now («state_f» .entry)) (now (words .entry)) (now (floats .entry)) ⌝ }
+{
+    let cursor = states::read_state(text, o.cursor, s.n, s.k, words, floats);
+    compared(tallies::at(o, cursor), s, state_u, state_f, words, floats)
+}
+
+/// A refused call: the state that the list has for it is passed.
+pub fn refused(text: &[u8], o: Outcome, c: Cursor, s: Shape) -> Outcome
+    ensures { λ r. ⌜ r ≡ refusedAt (now (text .entry)) o c s ⌝ }
+{
+    let p = tallies::at(o, kinds::pass_state(text, c, s.n, s.k));
+    tallies::and(p, false, tallies::REFUSED)
+}
+
+/// An iteration's cost and total of new, beside the list's.
+pub fn counts(text: &[u8], o: Outcome, cost: usize, new: usize) -> Outcome
+    ensures { λ r. ⌜ r ≡ countsAt (now (text .entry)) o cost new ⌝ }
+{
+    let a = cases::read_word(text, o.cursor);
+    let b = cases::read_word(text, a.cursor);
+    let p = tallies::at(o, b.cursor);
+    let q = tallies::and(p, a.value as usize == cost, tallies::COUNT);
+    tallies::and(q, b.value as usize == new, tallies::COUNT)
+}
+
+/// Nothing differs yet.
+pub fn fresh(c: Cursor) -> Outcome
+    ensures { λ r. ⌜ r ≡ freshAt c ⌝ }
+{
+    Outcome {
+        differs: tallies::NOTHING,
+        cursor: c,
+    }
+}
+
+/// The draws of a call, after their number, to the front of the slice.
+pub fn read_draws(text: &[u8], c: Cursor, draws: &mut [u32]) -> Size
+    ensures { λ r. ⌜ r ≡ drawsAt (now (text .entry)) c (length (now (draws .entry))) ⌝ }
+{
+    let count = cases::read_size(text, c, draws.len());
+    let long = cases::least(count.value, draws.len());
+    let cursor = cases::read_words(text, count.cursor, &mut draws[..long]);
+    Size {
+        value: long,
+        cursor: cursor,
+    }
+}
