@@ -105,7 +105,7 @@ def code_moves(whole, text, start, end):
 
 def masked(text):
     """The text with comments and strings blanked, so that nothing in them is edited."""
-    return re.sub(r"//[^\n]*|(?<!extern )\"(?:[^\"\\\n]|\\.)*\"", lambda m: "~" * len(m.group(0)), text)
+    return re.sub(r"//[^\n]*|(?<!extern )\"(?:[^\"\\]|\\.)*\"", lambda m: re.sub(r"[^\n]", "~", m.group(0)), text)
 
 
 def changed(file, name, plain, within, typed, words, moves):
