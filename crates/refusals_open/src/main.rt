@@ -1,39 +1,28 @@
 // Every row of the table of a relay's `open`, at its edges and beside the rows after it; stdin says what its numbers are.
+ghost use mathlib.Core.Path.{_≡_};
+ghost use Rattle.refusals_open.specs.Given.{behindCase};
+ghost use Rattle.refusals_open.specs.Left.{refusedLeft};
 use cases::Cursor;
+use given::Call;
+use given::Entry;
 use libc::STDOUT_FILENO;
 use refusals::Left;
 use rules::Answer;
 
+mod given;
+
 // The distance of an unfilled entry, 0x7F7FFFFF by its bits.
 const EMPTY: f32 = 340282346638528859811704183484516925440.0;
 
-// The numbers of a call, and how long the lists, the state and scratch are that it lends.
-struct Call {
-    dimension: usize,
-    n: usize,
-    k: usize,
-    nodes: usize,
-    dists: usize,
-    words: usize,
-    floats: usize,
-    scratch_u: usize,
-    scratch_f: usize,
-}
-
-// An entry that is put into the lists before the call; a place behind their end changes nothing.
-struct Entry {
-    at: usize,
-    node: u32,
-    dist: f32,
-}
-
 // What became of the state and of scratch where the call is refused.
-fn left_refused(words: &[u32], floats: &[f32], scratch_u: &[u32], scratch_f: &[f32]) -> Left {
-    let l = refusals::scratch_left(words, floats);
-    let Left::Untouched = l else {
-        return Left::Written;
-    };
-    refusals::scratch_left(scratch_u, scratch_f)
+fn left_refused(words: &[u32], floats: &[f32], scratch_u: &[u32], scratch_f: &[f32]) -> Left
+    ensures { λ r. ⌜ r ≡ refusedLeft (now (words .entry)) (now (floats .entry)) (now («scratch_u» .entry)) (now («scratch_f» .entry)) ⌝ }
+{
+    match refusals::scratch_left(words, floats) {
+        Left::Untouched => refusals::scratch_left(scratch_u, scratch_f),
+        Left::Zeroed => Left::Written,
+        Left::Written => Left::Written,
+    }
 }
 
 // The rest of a call's line.
@@ -153,47 +142,24 @@ fn lend(number: u32, c: Call, lanes: &[f32], jobs: &[u32], e: Entry, f: Entry) {
     cut(number, c, lanes, &nodes, &dists, jobs);
 }
 
-fn call_of(xs: [u32; 15]) -> Call {
-    Call {
-        dimension: refusals::wide(xs[0]),
-        n: refusals::wide(xs[1]),
-        k: refusals::wide(xs[2]),
-        nodes: refusals::wide(xs[3]),
-        dists: refusals::wide(xs[4]),
-        words: refusals::wide(xs[5]),
-        floats: refusals::wide(xs[6]),
-        scratch_u: refusals::wide(xs[7]),
-        scratch_f: refusals::wide(xs[8]),
-    }
-}
-
-fn entry_of(at: u32, node: u32, bits: u32) -> Entry {
-    Entry {
-        at: refusals::wide(at),
-        node: node,
-        dist: refusals::float_of(bits),
-    }
-}
-
 // A case: its numbers and two entries, then lanes and jobs, each after their number.
-fn one_case(text: &[u8], c: Cursor, number: u32) -> Cursor {
-    let mut xs: [u32; 15] = [0; 15];
+fn one_case(text: &[u8], c: Cursor, number: u32) -> Cursor
+    ensures { λ r. ⌜ r ≡ behindCase (now (text .entry)) c ⌝ }
+{
+    let read = given::read_case(text, c);
     let mut lanes: [f32; 1025] = [0.0; 1025];
     let mut jobs: [u32; 130] = [0; 130];
-    let numbers = cases::read_words(text, c, &mut xs);
-    let l = refusals::read_lanes(text, numbers, &mut lanes);
+    let l = refusals::read_lanes(text, read.cursor, &mut lanes);
     let j = refusals::read_run(text, l.cursor, &mut jobs);
     let lanes_long = l.value;
     let jobs_long = j.value;
-    let e = entry_of(xs[9], xs[10], xs[11]);
-    let f = entry_of(xs[12], xs[13], xs[14]);
     lend(
         number,
-        call_of(xs),
+        read.call,
         &lanes[..lanes_long],
         &jobs[..jobs_long],
-        e,
-        f,
+        read.first,
+        read.second,
     );
     j.cursor
 }
