@@ -1,29 +1,25 @@
 // Settled squares D to G and J, and every row of the table that `search` can give, at its edges and beside the rows after it: each case of
 // stdin is called on lent places full of junk, and says what became of them. stdin says what its numbers are.
+ghost use mathlib.Core.Path.{_≡_};
+ghost use Rattle.refusals_search.specs.Given.{behindCase};
+ghost use Rattle.refusals_search.specs.Left.{resultsLeft};
 use cases::Cursor;
+use given::Call;
 use libc::STDOUT_FILENO;
 use refusals::Left;
 use rules::SearchAnswer;
+
+mod given;
 
 // What the first place of each result slice holds before a call; each further place holds one more.
 const NODES: u32 = 0xCD00_0000;
 
 const BITS: u32 = 0xAB00_0000;
 
-// The numbers of a call, and how long the result slices and scratch are that it lends.
-struct Call {
-    dimension: usize,
-    n: usize,
-    index_size: usize,
-    k: usize,
-    nodes: usize,
-    bits: usize,
-    words: usize,
-    floats: usize,
-}
-
 // What became of the lent places, where the first `m` of the results are the answer's.
-fn left(m: usize, nodes: &[u32], bits: &[u32], words: &[u32], floats: &[f32]) -> Left {
+fn left(m: usize, nodes: &[u32], bits: &[u32], words: &[u32], floats: &[f32]) -> Left
+    ensures { λ r. ⌜ r ≡ resultsLeft m (now (nodes .entry)) (now (bits .entry)) (now (words .entry)) (now (floats .entry)) ⌝ }
+{
     if !refusals::kept_words(nodes, m, NODES) {
         return Left::Written;
     }
@@ -142,28 +138,16 @@ fn lend(number: u32, c: Call, lanes: &[f32], graph: &[u32], roots: &[u32], query
     );
 }
 
-fn call_of(xs: [u32; 8]) -> Call {
-    Call {
-        dimension: refusals::wide(xs[0]),
-        n: refusals::wide(xs[1]),
-        index_size: refusals::wide(xs[2]),
-        k: refusals::wide(xs[3]),
-        nodes: refusals::wide(xs[4]),
-        bits: refusals::wide(xs[5]),
-        words: refusals::wide(xs[6]),
-        floats: refusals::wide(xs[7]),
-    }
-}
-
 // A case: its numbers, then what is lent to be read, each run after its length.
-fn one_case(text: &[u8], c: Cursor, number: u32) -> Cursor {
-    let mut xs: [u32; 8] = [0; 8];
+fn one_case(text: &[u8], c: Cursor, number: u32) -> Cursor
+    ensures { λ r. ⌜ r ≡ behindCase (now (text .entry)) c ⌝ }
+{
+    let read = given::read_case(text, c);
     let mut lanes: [f32; 65] = [0.0; 65];
     let mut graph: [u32; 65] = [0; 65];
     let mut roots: [u32; 65] = [0; 65];
     let mut query: [f32; 2] = [0.0; 2];
-    let numbers = cases::read_words(text, c, &mut xs);
-    let l = refusals::read_lanes(text, numbers, &mut lanes);
+    let l = refusals::read_lanes(text, read.cursor, &mut lanes);
     let g = refusals::read_run(text, l.cursor, &mut graph);
     let r = refusals::read_run(text, g.cursor, &mut roots);
     let q = refusals::read_lanes(text, r.cursor, &mut query);
@@ -173,7 +157,7 @@ fn one_case(text: &[u8], c: Cursor, number: u32) -> Cursor {
     let query_long = q.value;
     lend(
         number,
-        call_of(xs),
+        read.call,
         &lanes[..lanes_long],
         &graph[..graph_long],
         &roots[..roots_long],

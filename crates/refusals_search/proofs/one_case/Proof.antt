@@ -1,15 +1,13 @@
--- `refusals_search::one_case` is safe: each part is as long as its run. Assumes nothing.
+-- `refusals_search::one_case` meets its contract: each part is as long as its run. Assumes nothing.
 use native.Mathlib.Omega.{arith}
 use lib.ListN.{length-take}
+use Rattle.refusals_search.specs.Given.{behindCase}
 use borrow.Author.Needs.{needs}
 use Rattle.refusals_search.proofs.one_case.Statement.{statement}
 use Rattle.refusals_search.proofs.one_case.Tie as tie
 
-slice-aggregate-read-words : tie.Need-slice-aggregate-read-words
-slice-aggregate-read-words c = search needs
-
-read-words-requires : tie.Need-read-words-requires
-read-words-requires c κs = search needs
+read-case-requires : tie.Need-read-case-requires
+read-case-requires c κs = search needs
 
 slice-aggregate-read-lanes : tie.Need-slice-aggregate-read-lanes
 slice-aggregate-read-lanes c = search needs
@@ -35,14 +33,11 @@ slice-aggregate-read-lanes-2 c = search needs
 read-lanes-requires-2 : tie.Need-read-lanes-requires-2
 read-lanes-requires-2 c κs = search needs
 
-call-of-requires : tie.Need-call-of-requires
-call-of-requires c κs = search needs
-
 array-share-prefix-lanes : tie.Need-array-share-prefix-lanes
-array-share-prefix-lanes c = c .before .before .before .before .before .before .before .before .before .before .before .read-lanes .ensures .0
+array-share-prefix-lanes c = search needs
 
 slice-aggregate-lend : tie.Need-slice-aggregate-lend
-slice-aggregate-lend c = simp length-take (omega (arith, c .before .before .before .before .before .before .before .before .before .before .before .before .read-lanes .ensures .0))
+slice-aggregate-lend c = simp length-take (omega arith)
 
 array-share-prefix-graph : tie.Need-array-share-prefix-graph
 array-share-prefix-graph c = search needs
@@ -66,14 +61,19 @@ lend-requires : tie.Need-lend-requires
 lend-requires c κs = search needs
 
 returns : tie.Need-returns
-returns c = search needs
+unfolding behindCase
+returns c =
+    let query = c .before .before .before .before .before .before .before in
+    let roots = query .before .before .before in
+    let graph = roots .before .before .before in
+    let lanes = graph .before .before .before in
+    rw (query .read-lanes2 .ensures .1 .0, roots .read-run2 .ensures .1 .0, graph .read-run .ensures .1 .0, lanes .read-lanes .ensures .1 .0, lanes .before .before .read-case .ensures)
 
 pub one-case-spec : {M : Type 1} → statement M
 one-case-spec =
     tie.close
     (tie.spec
-    slice-aggregate-read-words
-    read-words-requires
+    read-case-requires
     slice-aggregate-read-lanes
     read-lanes-requires
     slice-aggregate-read-run
@@ -82,7 +82,6 @@ one-case-spec =
     read-run-requires-2
     slice-aggregate-read-lanes-2
     read-lanes-requires-2
-    call-of-requires
     array-share-prefix-lanes
     slice-aggregate-lend
     array-share-prefix-graph
