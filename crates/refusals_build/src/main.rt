@@ -1,26 +1,20 @@
 // Square C and every row of the table that `build` can give, at its edges and beside the rows after it: each case of stdin is called on lent
 // places full of junk, and says what became of them. stdin says what its numbers are.
+ghost use mathlib.Core.Path.{_≡_};
+ghost use Rattle.refusals_build.specs.Given.{behindCase};
+ghost use Rattle.refusals_build.specs.Left.{refusedLeft};
 use cases::Cursor;
+use given::Call;
 use libc::STDOUT_FILENO;
-use params::SsgParams;
 use refusals::Left;
 use rules::Answer;
+
+mod given;
 
 // What the first place of the graph holds before a call; each further place holds one more.
 const GRAPH: u32 = 0xCD00_0000;
 // A longer graph is not printed.
 const PRINTED: usize = 256;
-
-// The numbers of a call, and how long each slice is that it lends.
-struct Call {
-    params: SsgParams,
-    dimension: usize,
-    n: usize,
-    graph: usize,
-    words: usize,
-    floats: usize,
-    lanes: usize,
-}
 
 // A graph of rows of one place: the first, and whether each further one holds the node before its own.
 fn put_long(page: &mut [u8], at: usize, graph: &[u32]) -> usize {
@@ -43,7 +37,9 @@ fn put_graph(page: &mut [u8], at: usize, graph: &[u32], index_size: usize) -> us
 }
 
 // What became of the lent places: a refusal leaves the graph too.
-fn left_refused(graph: &[u32], words: &[u32], floats: &[f32]) -> Left {
+fn left_refused(graph: &[u32], words: &[u32], floats: &[f32]) -> Left
+    ensures { λ r. ⌜ r ≡ refusedLeft (now (graph .entry)) (now (words .entry)) (now (floats .entry)) ⌝ }
+{
     if !refusals::kept_words(graph, 0, GRAPH) {
         return Left::Written;
     }
@@ -121,35 +117,16 @@ fn lend(number: u32, c: Call, lanes: &[f32]) {
     );
 }
 
-fn params_of(xs: [u32; 10]) -> SsgParams {
-    SsgParams::default()
-        .init_k(refusals::wide(xs[2]))
-        .index_size(refusals::wide(xs[3]))
-        .neighbor_neighbor_size(refusals::wide(xs[4]))
-        .threshold(refusals::float_of(xs[5]))
-}
-
-fn call_of(xs: [u32; 10]) -> Call {
-    Call {
-        params: params_of(xs),
-        dimension: refusals::wide(xs[0]),
-        n: refusals::wide(xs[1]),
-        graph: refusals::wide(xs[6]),
-        words: refusals::wide(xs[7]),
-        floats: refusals::wide(xs[8]),
-        lanes: refusals::wide(xs[9]),
-    }
-}
-
 // A case: its numbers, and its first lanes after their number; lane i behind them is i.
-fn one_case(text: &[u8], c: Cursor, number: u32) -> Cursor {
-    let mut xs: [u32; 10] = [0; 10];
+fn one_case(text: &[u8], c: Cursor, number: u32) -> Cursor
+    ensures { λ r. ⌜ r ≡ behindCase (now (text .entry)) c ⌝ }
+{
+    let read = given::read_case(text, c);
     let mut lanes: [f32; 4096] = [0.0; 4096];
     refusals::fill_floats(&mut lanes, 0.0);
-    let numbers = cases::read_words(text, c, &mut xs);
-    let given = refusals::read_lanes(text, numbers, &mut lanes);
-    lend(number, call_of(xs), &lanes);
-    given.cursor
+    let first = refusals::read_lanes(text, read.cursor, &mut lanes);
+    lend(number, read.call, &lanes);
+    first.cursor
 }
 
 // The last line: how many cases there were, and the reader's fault.
