@@ -1,38 +1,21 @@
 // Every row of the tables of a relay's move and close, and every clause of a well-formed relay state; stdin says what its numbers are.
+ghost use mathlib.Core.Path.{_≡_};
+ghost use Rattle.cases.specs.Text.{behind};
+ghost use Rattle.refusals_relay.specs.Given.{wordsDamaged, floatsDamaged};
+ghost use Rattle.refusals_relay.specs.Left.{stateLeft, refusedLeft, doneLeft};
 use cases::Cursor;
+use given::Lent;
+use given::State;
 use libc::STDOUT_FILENO;
 use refusals::Left;
 use rules::Answer;
+
+mod given;
 
 // What the first place of the reports holds before a close; each further place holds one more.
 const REPORTS: u32 = 0xCD00_0000;
 // The distance of an unfilled entry, 0x7F7FFFFF by its bits.
 const EMPTY: f32 = 340282346638528859811704183484516925440.0;
-
-// The numbers of a call, and how long each slice is that it lends.
-struct Lent {
-    n: usize,
-    k: usize,
-    job: usize,
-    words: usize,
-    floats: usize,
-    nodes: usize,
-    dists: usize,
-    reports: usize,
-}
-
-// How many steps job 0 and each other job has done, and then two words and a float that are put at places of the state; a place behind
-// the end changes nothing.
-struct State {
-    first: usize,
-    rest: usize,
-    at: usize,
-    word: u32,
-    also: usize,
-    other: u32,
-    float_at: usize,
-    float: f32,
-}
 
 // Four jobs on the lanes and unfilled lists of square I: its own three, and one with u = v.
 fn opened(words: &mut [u32], floats: &mut [f32]) {
@@ -72,7 +55,10 @@ fn advance_all(s: State, words: &mut [u32], floats: &mut [f32]) {
     advance(words, floats, 3, s.rest);
 }
 
-fn damage(s: State, words: &mut [u32], floats: &mut [f32]) {
+fn damage(s: State, words: &mut [u32], floats: &mut [f32])
+    ensures { λ _. ⌜ now (words .exit) ≡ wordsDamaged s (now (words .entry)) ⌝ }
+    ensures { λ _. ⌜ now (floats .exit) ≡ floatsDamaged s (now (floats .entry)) ⌝ }
+{
     relays::put_word(words, s.at, s.word);
     relays::put_word(words, s.also, s.other);
     relays::put_float(floats, s.float_at, s.float);
@@ -91,7 +77,9 @@ fn make(s: State, words: &mut [u32], floats: &mut [f32]) {
     make_in(s, &mut words[..words_long], &mut floats[..floats_long]);
 }
 
-fn same(words: &[u32], floats: &[f32], twin_words: &[u32], twin_floats: &[f32]) -> Left {
+fn same(words: &[u32], floats: &[f32], twin_words: &[u32], twin_floats: &[f32]) -> Left
+    ensures { λ r. ⌜ r ≡ stateLeft (now (words .entry)) (now (floats .entry)) (now («twin_words» .entry)) (now («twin_floats» .entry)) ⌝ }
+{
     if !states::same_words(words, twin_words) {
         return Left::Written;
     }
@@ -171,7 +159,9 @@ fn lend_move(number: u32, l: Lent, s: State) {
 }
 
 // What became of all places where a close is refused.
-fn left_refused(nodes: &[u32], dists: &[f32], reports: &[u32]) -> Left {
+fn left_refused(nodes: &[u32], dists: &[f32], reports: &[u32]) -> Left
+    ensures { λ r. ⌜ r ≡ refusedLeft (now (nodes .entry)) (now (dists .entry)) (now (reports .entry)) ⌝ }
+{
     if refusals::kept_words(reports, 0, REPORTS) {
         return refusals::scratch_left(nodes, dists);
     }
@@ -179,7 +169,9 @@ fn left_refused(nodes: &[u32], dists: &[f32], reports: &[u32]) -> Left {
 }
 
 // What became of the reports behind those of the four jobs.
-fn left_done(reports: &[u32]) -> Left {
+fn left_done(reports: &[u32]) -> Left
+    ensures { λ r. ⌜ r ≡ doneLeft (now (reports .entry)) ⌝ }
+{
     if refusals::kept_words(reports, 8, REPORTS) {
         return Left::Untouched;
     }
@@ -260,32 +252,6 @@ fn lend_close(number: u32, l: Lent, s: State) {
     close_cut(number, l, &words, &floats);
 }
 
-fn lent_of(xs: [u32; 16]) -> Lent {
-    Lent {
-        n: refusals::wide(xs[0]),
-        k: refusals::wide(xs[1]),
-        job: refusals::wide(xs[2]),
-        words: refusals::wide(xs[3]),
-        floats: refusals::wide(xs[4]),
-        nodes: refusals::wide(xs[5]),
-        dists: refusals::wide(xs[6]),
-        reports: refusals::wide(xs[7]),
-    }
-}
-
-fn state_of(xs: [u32; 16]) -> State {
-    State {
-        first: refusals::wide(xs[8]),
-        rest: refusals::wide(xs[9]),
-        at: refusals::wide(xs[10]),
-        word: xs[11],
-        also: refusals::wide(xs[12]),
-        other: xs[13],
-        float_at: refusals::wide(xs[14]),
-        float: refusals::float_of(xs[15]),
-    }
-}
-
 // The calls of a case of some kind: 1 a move, 2 a close, else both.
 fn called(number: u32, kind: u32, l: Lent, s: State) {
     if kind != 2 {
@@ -296,11 +262,12 @@ fn called(number: u32, kind: u32, l: Lent, s: State) {
     }
 }
 
-fn one_case(text: &[u8], c: Cursor, number: u32, kind: u32) -> Cursor {
-    let mut xs: [u32; 16] = [0; 16];
-    let cursor = cases::read_words(text, c, &mut xs);
-    called(number, kind, lent_of(xs), state_of(xs));
-    cursor
+fn one_case(text: &[u8], c: Cursor, number: u32, kind: u32) -> Cursor
+    ensures { λ r. ⌜ r ≡ behind 16 (now (text .entry)) c ⌝ }
+{
+    let read = given::read_case(text, c);
+    called(number, kind, read.lent, read.state);
+    read.cursor
 }
 
 // The last line: how many cases there were, and the reader's fault.

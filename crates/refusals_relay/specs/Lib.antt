@@ -1,0 +1,3 @@
+-- `Given`: what the list of cases says. `Left`: what became of the lent places.
+pub mod Given
+pub mod Left
