@@ -1,3 +1,4 @@
--- `Order`: seeded numbers, and orders of a relay's moves. `Run`: a whole relay by the rules of its calls.
+-- `Sets`: the sets of jobs. `Order`: seeded numbers, and orders of a relay's moves. `Run`: a whole relay by the rules of its calls.
+pub mod Sets
 pub mod Order
 pub mod Run

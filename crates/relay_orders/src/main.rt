@@ -1,11 +1,15 @@
 // Square I in three orders of its moves, and 44 orders of each of nine sets of jobs: every order of one set must end in the same lists.
 use libc::STDOUT_FILENO;
+use sets::Game;
 
 mod order;
 mod run;
+mod sets;
 
 // The orders of a set: four by rule, and further ones shuffled.
 const ORDERS: u32 = 44;
+// The length of a list of square I.
+const SQUARE_K: usize = 2;
 // The distance of an unfilled entry, 0x7F7FFFFF by its bits.
 const EMPTY: f32 = 340282346638528859811704183484516925440.0;
 
@@ -139,9 +143,10 @@ fn with_set(
     lanes: &[f32],
     jobs: &[u32],
     given: Lists,
-    first: Lists,
+    first: Outcome,
     t: Tally,
 ) -> Tally {
+    let lists = first.lists;
     let mut kind: u32 = 0;
     let mut tally = Tally {
         sets: more(t.sets, 1),
@@ -151,7 +156,7 @@ fn with_set(
     };
     while kind < ORDERS {
         let e = ended(n, k, lanes, jobs, given, kind);
-        let next = with_order(tally, first, e);
+        let next = with_order(tally, lists, e);
         tally = next;
         kind += 1;
     }
@@ -186,14 +191,14 @@ fn say_reports(reports: &[u32]) {
 
 // Square I in an order of its 24 moves: the lists, two entries a node, and the reports.
 fn square(name: &[u8], order: &[u32]) {
-    let lanes = [0.0f32, 1.0, 3.0, 7.0];
-    let jobs = [0u32, 1, 0, 3, 0, 2];
+    let lanes = sets::square_lanes();
+    let jobs = sets::square_jobs();
     let mut nodes: [u32; 8] = [4; 8];
     let mut dists: [f32; 8] = [EMPTY; 8];
     let mut reports: [u32; 128] = [0; 128];
     let refused = run::whole(
-        4,
-        2,
+        lanes.len(),
+        SQUARE_K,
         &lanes,
         &jobs,
         order,
@@ -247,39 +252,38 @@ fn squares() {
 
 // One set more, on given lists.
 fn on_lists(n: usize, k: usize, lanes: &[f32], jobs: &[u32], given: Lists, t: Tally) -> Tally {
-    let e = ended(n, k, lanes, jobs, given, 0);
-    let first = e.lists;
+    let first = ended(n, k, lanes, jobs, given, 0);
     with_set(n, k, lanes, jobs, given, first, t)
 }
 
 // Square I.
 fn with_square(t: Tally) -> Tally {
-    let lanes = [0.0f32, 1.0, 3.0, 7.0];
-    let jobs = [0u32, 1, 0, 3, 0, 2];
-    on_lists(4, 2, &lanes, &jobs, unfilled(4), t)
+    let lanes = sets::square_lanes();
+    let jobs = sets::square_jobs();
+    on_lists(lanes.len(), SQUARE_K, &lanes, &jobs, unfilled(4), t)
 }
 
 // Twelve jobs on the lists that others left.
-fn with_more(k: usize, seed: u32, lanes: &[f32], given: Lists, t: Tally) -> Tally {
+fn with_more(g: Game, lanes: &[f32], left: Outcome, t: Tally) -> Tally {
     let mut jobs: [u32; 24] = [0; 24];
-    order::fill_drawn(&mut jobs, more(seed, 2), 6);
-    on_lists(6, k, lanes, &jobs, given, t)
+    order::fill_drawn(&mut jobs, g.further, g.n);
+    on_lists(lanes.len(), g.k, lanes, &jobs, left.lists, t)
 }
 
-// A game of six nodes: twelve jobs on unfilled lists, and twelve on what these left.
-fn with_jobs(k: usize, seed: u32, lanes: &[f32], t: Tally) -> Tally {
+// A drawn game: twelve jobs on unfilled lists, and twelve on what these left.
+fn with_jobs(g: Game, lanes: &[f32], t: Tally) -> Tally {
     let mut jobs: [u32; 24] = [0; 24];
-    order::fill_drawn(&mut jobs, more(seed, 1), 6);
-    let half = on_lists(6, k, lanes, &jobs, unfilled(6), t);
-    let e = ended(6, k, lanes, &jobs, unfilled(6), 0);
-    let left = e.lists;
-    with_more(k, seed, lanes, left, half)
+    order::fill_drawn(&mut jobs, g.first, g.n);
+    let half = on_lists(lanes.len(), g.k, lanes, &jobs, unfilled(g.n), t);
+    let left = ended(lanes.len(), g.k, lanes, &jobs, unfilled(g.n), 0);
+    with_more(g, lanes, left, half)
 }
 
-fn with_game(k: usize, seed: u32, t: Tally) -> Tally {
+fn with_game(number: u32, t: Tally) -> Tally {
+    let g = sets::drawn(number);
     let mut lanes: [f32; 6] = [0.0; 6];
-    order::fill_lanes(&mut lanes, seed);
-    with_jobs(k, seed, &lanes, t)
+    order::fill_lanes(&mut lanes, g.lanes);
+    with_jobs(g, &lanes, t)
 }
 
 fn all_sets() -> Tally {
@@ -290,10 +294,10 @@ fn all_sets() -> Tally {
         refused: 0,
     };
     let a = with_square(none);
-    let b = with_game(1, 20261101, a);
-    let c = with_game(2, 20261102, b);
-    let d = with_game(3, 20261103, c);
-    with_game(4, 20261104, d)
+    let b = with_game(1, a);
+    let c = with_game(2, b);
+    let d = with_game(3, c);
+    with_game(4, d)
 }
 
 fn main() {
