@@ -1,7 +1,9 @@
 // Every row of the table of a relay's `open`, at its edges and beside the rows after it; stdin says what its numbers are.
 ghost use mathlib.Core.Path.{_≡_};
+ghost use Rattle.pages.specs.Page.{Puts};
 ghost use Rattle.refusals_open.specs.Given.{behindCase};
 ghost use Rattle.refusals_open.specs.Left.{refusedLeft};
+ghost use Rattle.refusals_open.specs.Texts.{restText};
 use cases::Cursor;
 use given::Call;
 use given::Entry;
@@ -34,7 +36,9 @@ fn put_rest(
     floats: &[f32],
     scratch_u: &[u32],
     scratch_f: &[f32],
-) -> usize {
+) -> usize
+    ensures { λ e. ⌜ Puts at (restText answer (now (words .entry)) (now (floats .entry)) (now («scratch_u» .entry)) (now («scratch_f» .entry))) (now (page .entry)) e (now (page .exit)) ⌝ }
+{
     match answer {
         Answer::Done => {
             let behind = pages::put(page, at, b": done");
