@@ -1,8 +1,10 @@
 // Settled squares D to G and J, and every row of the table that `search` can give, at its edges and beside the rows after it: each case of
 // stdin is called on lent places full of junk, and says what became of them. stdin says what its numbers are.
 ghost use mathlib.Core.Path.{_≡_};
+ghost use Rattle.pages.specs.Page.{Puts};
 ghost use Rattle.refusals_search.specs.Given.{behindCase};
 ghost use Rattle.refusals_search.specs.Left.{resultsLeft};
+ghost use Rattle.refusals_search.specs.Texts.{resultsText, restText};
 use cases::Cursor;
 use given::Call;
 use libc::STDOUT_FILENO;
@@ -36,7 +38,9 @@ fn put_results(
     takings: usize,
     nodes: &[u32],
     bits: &[u32],
-) -> usize {
+) -> usize
+    ensures { λ e. ⌜ Puts at (resultsText m takings (now (nodes .entry)) (now (bits .entry))) (now (page .entry)) e (now (page .exit)) ⌝ }
+{
     let found = pages::put_number(page, at, b": ", m);
     let taken = pages::put_number(page, found, b",", takings);
     let named = pages::put(page, taken, b", nodes");
@@ -54,7 +58,9 @@ fn put_rest(
     bits: &[u32],
     words: &[u32],
     floats: &[f32],
-) -> usize {
+) -> usize
+    ensures { λ e. ⌜ Puts at (restText answer (now (nodes .entry)) (now (bits .entry)) (now (words .entry)) (now (floats .entry))) (now (page .entry)) e (now (page .exit)) ⌝ }
+{
     match answer {
         SearchAnswer::Found { m, takings } => {
             let behind = put_results(page, at, m, takings, nodes, bits);
