@@ -1,8 +1,10 @@
 // Every row of the tables of a relay's move and close, and every clause of a well-formed relay state; stdin says what its numbers are.
 ghost use mathlib.Core.Path.{_≡_};
 ghost use Rattle.cases.specs.Text.{behind};
+ghost use Rattle.pages.specs.Page.{Puts};
 ghost use Rattle.refusals_relay.specs.Given.{wordsDamaged, floatsDamaged};
 ghost use Rattle.refusals_relay.specs.Left.{stateLeft, refusedLeft, doneLeft};
+ghost use Rattle.refusals_relay.specs.Texts.{movedText, closedText};
 use cases::Cursor;
 use given::Lent;
 use given::State;
@@ -89,7 +91,9 @@ fn same(words: &[u32], floats: &[f32], twin_words: &[u32], twin_floats: &[f32]) 
     Left::Untouched
 }
 
-fn put_moved(page: &mut [u8], at: usize, answer: Answer) -> usize {
+fn put_moved(page: &mut [u8], at: usize, answer: Answer) -> usize
+    ensures { λ e. ⌜ Puts at (movedText answer) (now (page .entry)) e (now (page .exit)) ⌝ }
+{
     match answer {
         Answer::Done => pages::put(page, at, b": moved"),
         Answer::Refused(r) => refusals::put_refusal(page, at, r),
@@ -185,7 +189,9 @@ fn put_closed(
     nodes: &[u32],
     dists: &[f32],
     reports: &[u32],
-) -> usize {
+) -> usize
+    ensures { λ e. ⌜ Puts at (closedText answer (now (nodes .entry)) (now (dists .entry)) (now (reports .entry))) (now (page .entry)) e (now (page .exit)) ⌝ }
+{
     match answer {
         Answer::Done => {
             let named = pages::put(page, at, b": reports");
