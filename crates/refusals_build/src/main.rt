@@ -1,8 +1,10 @@
 // Square C and every row of the table that `build` can give, at its edges and beside the rows after it: each case of stdin is called on lent
 // places full of junk, and says what became of them. stdin says what its numbers are.
 ghost use mathlib.Core.Path.{_≡_};
+ghost use Rattle.pages.specs.Page.{Puts};
 ghost use Rattle.refusals_build.specs.Given.{behindCase};
 ghost use Rattle.refusals_build.specs.Left.{refusedLeft};
+ghost use Rattle.refusals_build.specs.Texts.{longText, printedText, restText};
 use cases::Cursor;
 use given::Call;
 use libc::STDOUT_FILENO;
@@ -17,9 +19,11 @@ const GRAPH: u32 = 0xCD00_0000;
 const PRINTED: usize = 256;
 
 // A graph of rows of one place: the first, and whether each further one holds the node before its own.
-fn put_long(page: &mut [u8], at: usize, graph: &[u32]) -> usize {
+fn put_long(page: &mut [u8], at: usize, graph: &[u32]) -> usize
+    ensures { λ e. ⌜ Puts at (longText (now (graph .entry))) (now (page .entry)) e (now (page .exit)) ⌝ }
+{
     if graph.len() == 0 {
-        return at;
+        return pages::put(page, at, b"");
     }
     let first = pages::put_word(page, at, b": ", graph[0]);
     if !refusals::kept_words(graph, 1, 0xFFFF_FFFF) {
@@ -29,7 +33,9 @@ fn put_long(page: &mut [u8], at: usize, graph: &[u32]) -> usize {
     pages::put(page, behind, b" nodes one behind")
 }
 
-fn put_graph(page: &mut [u8], at: usize, graph: &[u32], index_size: usize) -> usize {
+fn put_graph(page: &mut [u8], at: usize, graph: &[u32], index_size: usize) -> usize
+    ensures { λ e. ⌜ Puts at (printedText «index_size» (now (graph .entry))) (now (page .entry)) e (now (page .exit)) ⌝ }
+{
     if graph.len() <= PRINTED {
         return refusals::put_graph(page, at, graph, index_size);
     }
@@ -55,7 +61,9 @@ fn put_rest(
     graph: &[u32],
     words: &[u32],
     floats: &[f32],
-) -> usize {
+) -> usize
+    ensures { λ e. ⌜ Puts at (restText answer «index_size» (now (graph .entry)) (now (words .entry)) (now (floats .entry))) (now (page .entry)) e (now (page .exit)) ⌝ }
+{
     match answer {
         Answer::Done => {
             let behind = put_graph(page, at, graph, index_size);
