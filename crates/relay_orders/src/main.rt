@@ -1,49 +1,20 @@
 // Square I in three orders of its moves, and 44 orders of each of nine sets of jobs: every order of one set must end in the same lists.
 use libc::STDOUT_FILENO;
 use sets::Game;
+use tally::EMPTY;
+use tally::Lists;
+use tally::Outcome;
+use tally::Tally;
 
 mod order;
 mod run;
 mod sets;
+mod tally;
 
 // The orders of a set: four by rule, and further ones shuffled.
 const ORDERS: u32 = 44;
 // The length of a list of square I.
 const SQUARE_K: usize = 2;
-// The distance of an unfilled entry, 0x7F7FFFFF by its bits.
-const EMPTY: f32 = 340282346638528859811704183484516925440.0;
-
-// Lists of a relay, in the front.
-struct Lists {
-    nodes: [u32; 24],
-    dists: [f32; 24],
-}
-
-// The lists after a close, and how many calls were refused on the way.
-struct Outcome {
-    lists: Lists,
-    refused: u32,
-}
-
-// The sets and orders run, the orders whose lists differ from those of their set's first, and the calls refused.
-struct Tally {
-    sets: u32,
-    orders: u32,
-    differ: u32,
-    refused: u32,
-}
-
-fn more(a: u32, b: u32) -> u32 {
-    std::num::wrapping_add_u32(a, b)
-}
-
-fn unfilled(n: u32) -> Lists {
-    Lists {
-        nodes: [n; 24],
-        dists: [EMPTY; 24],
-    }
-}
-
 // A relay in an order that is filled in first: jobs have two words and eight moves each.
 fn in_order(
     n: usize,
@@ -111,31 +82,6 @@ fn ended(n: usize, k: usize, lanes: &[f32], jobs: &[u32], l: Lists, kind: u32) -
     }
 }
 
-fn differ(a: Lists, b: Lists) -> u32 {
-    let nodes = a.nodes;
-    let dists = a.dists;
-    let other_nodes = b.nodes;
-    let other_dists = b.dists;
-    if !states::same_words(&nodes, &other_nodes) {
-        return 1;
-    }
-    if !states::same_floats(&dists, &other_dists) {
-        return 1;
-    }
-    0
-}
-
-// One order more of a set whose first ended in `first`.
-fn with_order(t: Tally, first: Lists, e: Outcome) -> Tally {
-    let lists = e.lists;
-    Tally {
-        sets: t.sets,
-        orders: more(t.orders, 1),
-        differ: more(t.differ, differ(first, lists)),
-        refused: more(t.refused, e.refused),
-    }
-}
-
 // One set more, whose first order ended in `first`: all its orders.
 fn with_set(
     n: usize,
@@ -148,19 +94,14 @@ fn with_set(
 ) -> Tally {
     let lists = first.lists;
     let mut kind: u32 = 0;
-    let mut tally = Tally {
-        sets: more(t.sets, 1),
-        orders: t.orders,
-        differ: t.differ,
-        refused: t.refused,
-    };
+    let mut so_far = tally::with_set(t);
     while kind < ORDERS {
         let e = ended(n, k, lanes, jobs, given, kind);
-        let next = with_order(tally, lists, e);
-        tally = next;
+        let next = tally::with_order(so_far, lists, e);
+        so_far = next;
         kind += 1;
     }
-    tally
+    so_far
 }
 
 fn say_word(label: &[u8], word: u32) {
@@ -260,7 +201,7 @@ fn on_lists(n: usize, k: usize, lanes: &[f32], jobs: &[u32], given: Lists, t: Ta
 fn with_square(t: Tally) -> Tally {
     let lanes = sets::square_lanes();
     let jobs = sets::square_jobs();
-    on_lists(lanes.len(), SQUARE_K, &lanes, &jobs, unfilled(4), t)
+    on_lists(lanes.len(), SQUARE_K, &lanes, &jobs, tally::unfilled(4), t)
 }
 
 // Twelve jobs on the lists that others left.
@@ -274,8 +215,8 @@ fn with_more(g: Game, lanes: &[f32], left: Outcome, t: Tally) -> Tally {
 fn with_jobs(g: Game, lanes: &[f32], t: Tally) -> Tally {
     let mut jobs: [u32; 24] = [0; 24];
     order::fill_drawn(&mut jobs, g.first, g.n);
-    let half = on_lists(lanes.len(), g.k, lanes, &jobs, unfilled(g.n), t);
-    let left = ended(lanes.len(), g.k, lanes, &jobs, unfilled(g.n), 0);
+    let half = on_lists(lanes.len(), g.k, lanes, &jobs, tally::unfilled(g.n), t);
+    let left = ended(lanes.len(), g.k, lanes, &jobs, tally::unfilled(g.n), 0);
     with_more(g, lanes, left, half)
 }
 
@@ -287,13 +228,7 @@ fn with_game(number: u32, t: Tally) -> Tally {
 }
 
 fn all_sets() -> Tally {
-    let none = Tally {
-        sets: 0,
-        orders: 0,
-        differ: 0,
-        refused: 0,
-    };
-    let a = with_square(none);
+    let a = with_square(tally::none());
     let b = with_game(1, a);
     let c = with_game(2, b);
     let d = with_game(3, c);

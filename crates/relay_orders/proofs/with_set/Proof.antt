@@ -5,13 +5,13 @@ use Rattle.relay_orders.proofs.with_set.Statement.{statement}
 use Rattle.relay_orders.proofs.with_set.Tie as tie
 
 abbrev Inv-loop : tie.InvT-loop
-Inv-loop n k lanes jobs given first kind₀ tally₀ kind tally = Unit {0}
+Inv-loop n k lanes jobs given lists kind₀ so-far₀ kind so-far = Unit {0}
 
 abbrev μ-loop : tie.MeasureT-loop
-μ-loop n k lanes jobs given first kind₀ tally₀ kind tally = 44 - kind
+μ-loop n k lanes jobs given lists kind₀ so-far₀ kind so-far = 44 - kind
 
-more-requires : tie.Need-more-requires Inv-loop μ-loop
-more-requires c κs = search needs
+with-set-requires : tie.Need-with-set-requires Inv-loop μ-loop
+with-set-requires c κs = search needs
 
 loop-holds : tie.Need-loop-holds Inv-loop μ-loop
 loop-holds c = tt
@@ -40,7 +40,7 @@ with-set-spec =
     (tie.spec
     Inv-loop
     μ-loop
-    more-requires
+    with-set-requires
     loop-holds
     ended-requires
     with-order-requires
