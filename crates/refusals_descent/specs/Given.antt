@@ -1,4 +1,5 @@
 -- What the list of calls says: a call's numbers, and what is changed in its state. Assumes nothing.
+use mathlib.Core.Bool.{Bool, false}
 use mathlib.Core.List.{List}
 use Prim.Native.Nat.{ℕ, zero, suc, _*_}
 use lib.Dec.{eqb}
@@ -30,6 +31,24 @@ callOf xs =
 
 unfoldable pub callAt : List ℕ → Cursor → Read
 callAt text c = record { call = callOf (wordsAt 12 text c); cursor = behind 12 text c }
+
+-- 1,024 nodes in lists of one: a lane each, two draws a node, and places as docs/LAYOUT.md has them
+abbrev pub mostOf : Bool → Call
+mostOf begins =
+    record {
+      begins = begins;
+      shown = false;
+      dimension = 1;
+      n = 1024;
+      k = 1;
+      s = 1;
+      lanes = 1024;
+      draws = 2048;
+      «state_u» = 300032;
+      «state_f» = 1024;
+      words = 528384;
+      floats = 528384;
+    }
 
 -- `count` words from the place `at` on, as far as there are places
 unfoldable pub filled : ℕ → ℕ → ℕ → List ℕ → List ℕ

@@ -2,7 +2,7 @@
 ghost use mathlib.Core.Path.{_≡_};
 ghost use lib.ListN.{set};
 ghost use Rattle.refusals.specs.Given.{bitsOf};
-ghost use Rattle.refusals_descent.specs.Given.{callOf, callAt, filled, wordsHarmed, floatsHarmed, behindChanges};
+ghost use Rattle.refusals_descent.specs.Given.{callOf, callAt, mostOf, filled, wordsHarmed, floatsHarmed, behindChanges};
 use crate::call::Call;
 use cases::Cursor;
 
@@ -41,6 +41,26 @@ pub fn read_call(text: &[u8], c: Cursor) -> Read
     Read {
         call: call_of(xs),
         cursor: cursor,
+    }
+}
+
+/// As many nodes as there may be, in lists of one, and what a call on them asks for.
+pub fn most(begins: bool) -> Call
+    ensures { λ r. ⌜ r ≡ mostOf begins ⌝ }
+{
+    Call {
+        begins: begins,
+        shown: false,
+        dimension: 1,
+        n: 1024,
+        k: 1,
+        s: 1,
+        lanes: 1024,
+        draws: 2048,
+        state_u: 300032,
+        state_f: 1024,
+        words: 528384,
+        floats: 528384,
     }
 }
 

@@ -119,24 +119,6 @@ fn say_end(c: Cursor) {
     io::write_all(STDOUT_FILENO, pages::text(&page, end));
 }
 
-// As many nodes as there may be.
-fn most(begins: bool) -> Call {
-    Call {
-        begins: begins,
-        shown: false,
-        dimension: 1,
-        n: 1024,
-        k: 1,
-        s: 1,
-        lanes: 1024,
-        draws: 2048,
-        state_u: 300032,
-        state_f: 1024,
-        words: 528384,
-        floats: 528384,
-    }
-}
-
 // The state before is not kept: no row holds.
 fn called(
     begins: bool,
@@ -151,7 +133,7 @@ fn called(
     let none_f: [f32; 0] = [0.0; 0];
     call::called(
         1024,
-        most(begins),
+        given::most(begins),
         lanes,
         draws,
         &none_u,
