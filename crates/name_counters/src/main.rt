@@ -1,4 +1,6 @@
 // Names counters: reads a game from stdin, teaches it, looks its queries up, and prints a table for a person and tables for a program.
+ghost use mathlib.Core.Path.{_≡_};
+ghost use Rattle.name_counters.specs.Messages.{lineStart};
 use games::Game;
 use libc::STDOUT_FILENO;
 use rules::Answer;
@@ -65,7 +67,9 @@ fn put_row(a: usize, b: usize, c: usize, d: usize) {
 }
 
 // The start of a line, counted from 0.
-fn line_start(text: &[u8], line: u32) -> usize {
+fn line_start(text: &[u8], line: u32) -> usize
+    ensures { λ r. ⌜ r ≡ lineStart (now (text .entry)) line 0 ⌝ }
+{
     let mut left = line;
     let mut at: usize = 0;
     while left > 0 {

@@ -1,0 +1,2 @@
+-- `Messages`: where the lines of a text start.
+pub mod Messages
