@@ -1,2 +1,3 @@
--- `Messages`: where the lines of a text start.
+-- `Messages`: where the lines of a text start. `Files`: which files are read.
 pub mod Messages
+pub mod Files

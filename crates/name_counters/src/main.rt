@@ -1,4 +1,4 @@
-// Names counters: reads a game from stdin, teaches it, looks its queries up, and prints a table for a person and tables for a program.
+// Names counters: reads the games that its arguments name, teaches each, looks its queries up, and prints a table for a person and tables for a program.
 ghost use mathlib.Core.Path.{_≡_};
 ghost use Rattle.name_counters.specs.Messages.{lineStart};
 use games::Game;
@@ -7,6 +7,7 @@ use rules::Answer;
 use rules::Refusal;
 use rules::SearchAnswer;
 
+mod files;
 mod rooms;
 
 // The tables: counters by name for a person; ranks, nodes and bits; refusals.
@@ -16,7 +17,7 @@ const RANKS: u32 = 1;
 
 const REFUSALS: u32 = 2;
 
-// Prints some bytes. A line is started by what is printed, and the last ended by `main`.
+// Prints some bytes. A line is started by what is printed, and the last of a game ended by `name_file`.
 fn say(s: &[u8]) {
     io::write_all(STDOUT_FILENO, s);
 }
@@ -357,13 +358,31 @@ fn name_counters(text: &[u8]) {
     with_parts(text, g, &wholes, &values);
 }
 
-fn main() {
+// A game that is read from standard input (0) or from the file that an argument names.
+fn name_file(i: usize) {
     let mut room = io::large_buffer();
-    let n = io::read_full(0, &mut room);
-    if n >= 65536 {
+    let n = tallies::read_list(i, &mut room);
+    if files::too_long(n) {
         say(b"the file is longer than 65,535 bytes\n");
         return;
     }
     name_counters(&room[..n]);
     say(b"\n");
+}
+
+// The argument, or 0 where it is `-`. One that is longer than its room has length 0 there, and so is no `-`.
+fn source(i: usize) -> usize {
+    let mut name: [u8; 1] = [0; 1];
+    let n = os::arg(i, &mut name);
+    if files::is_dash(&name[..n]) {
+        return 0;
+    }
+    i
+}
+
+fn main() {
+    let count = os::arg_count();
+    for i in files::first(count)..count {
+        name_file(source(i));
+    }
 }
