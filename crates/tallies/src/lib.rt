@@ -170,7 +170,8 @@ fn read_named(i: usize, room: &mut [u8]) -> usize
     let n = os::arg(i, &mut path);
     let fd = os::open_read(&path[..n]);
     if fd < 0 {
-        os::fail(&path[..n]);
+        io::write_all(STDOUT_FILENO, &path[..n]);
+        io::write_all(STDOUT_FILENO, b" cannot be read\n");
         return 0;
     }
     let long = io::read_full(fd, room);
