@@ -7,6 +7,7 @@ ghost use Rattle.rules.specs.Refusals.{saidOf};
 ghost use Rattle.rules.specs.DescentCall.{iterateSaid};
 ghost use Rattle.descent.specs.Descent as descents;
 ghost use Rattle.iterate.specs.Iterate.{iterateLeft};
+ghost use Rattle.refusals_descent.specs.Left.{standsAs, leftBy};
 ghost use Rattle.refusals_descent.specs.Given.{filled};
 ghost use Rattle.refusals_descent.specs.State.{withContext, formedWords, usualWords, usualFloats, isUsual, wordsGiven, floatsGiven};
 ghost use Rattle.refusals_descent.specs.Outcome.{uncounted, outcomeOf, leftOf};
@@ -198,7 +199,9 @@ fn put_answer(
 }
 
 // Whether the state stands as it was given.
-fn stands(state_u: &[u32], state_f: &[f32], given_u: &[u32], given_f: &[f32]) -> bool {
+fn stands(state_u: &[u32], state_f: &[f32], given_u: &[u32], given_f: &[f32]) -> bool
+    ensures { λ r. ⌜ r ≡ standsAs (now («state_u» .entry)) (now («state_f» .entry)) (now («given_u» .entry)) (now («given_f» .entry)) ⌝ }
+{
     if states::same_words(state_u, given_u) {
         return states::same_floats(state_f, given_f);
     }
@@ -206,7 +209,9 @@ fn stands(state_u: &[u32], state_f: &[f32], given_u: &[u32], given_f: &[f32]) ->
 }
 
 // What became of the lent places: a refusal leaves the state too.
-fn left(answer: IterateAnswer, stands: bool, words: &[u32], floats: &[f32]) -> Left {
+fn left(answer: IterateAnswer, stands: bool, words: &[u32], floats: &[f32]) -> Left
+    ensures { λ r. ⌜ r ≡ leftBy answer stands (now (words .entry)) (now (floats .entry)) ⌝ }
+{
     match answer {
         IterateAnswer::Iterated { cost: _, new: _ } => refusals::scratch_left(words, floats),
         IterateAnswer::Refused(_) => {
