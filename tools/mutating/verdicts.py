@@ -7,7 +7,7 @@ NOTHING = "no program"
 FACT = "fact"
 # nothing but text of the proof that no longer fits: an obligation that has gone, or has another shape
 TEXT = "proof text"
-# the prover accepts it; a program's printed lines no longer are what they must be
+# a program's printed lines no longer are what they must be; the prover accepts it, or was not asked (--run)
 RUN = "printed lines"
 ACCEPTED = "accepted"
 LATE = "no verdict"

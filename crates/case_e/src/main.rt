@@ -61,14 +61,10 @@ fn main() {
         &mut scratch_u,
         &mut scratch_f,
     );
-    let SearchAnswer::Found { m, takings: _ } = a else {
+    let SearchAnswer::Found { m: _, takings: _ } = a else {
         return;
     };
     io::write_all(STDOUT_FILENO, b"rank,node,bits\n");
-    if 1 <= m {
-        line(1, nodes[0], bits[0]);
-    }
-    if 2 <= m {
-        line(2, nodes[1], bits[1]);
-    }
+    line(1, nodes[0], bits[0]);
+    line(2, nodes[1], bits[1]);
 }

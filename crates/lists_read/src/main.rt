@@ -1,4 +1,4 @@
-// Reads each list that an argument names to its end, and prints how many cases of each kind it has, how many numbers with their sum, and its fault.
+// Reads each list that an argument names to its end, and prints its cases of each kind, its numbers with their sum, its fault, and that it is closed.
 use cases::Cursor;
 use libc::STDOUT_FILENO;
 
@@ -106,6 +106,9 @@ fn free_number(i: usize) -> i32 {
 fn read_list(i: usize) {
     let first = free_number(i);
     tell(i);
+    if first < 0 {
+        return;
+    }
     if first == free_number(i) {
         io::write_all(STDOUT_FILENO, b"closed\n");
     }

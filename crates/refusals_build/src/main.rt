@@ -1,5 +1,4 @@
-// Square C and every row of the table that `build` can give, at its edges and beside the rows after it: each case of stdin is called on lent
-// places full of junk, and says what became of them. stdin says what its numbers are.
+// Square C and every row of the table that `build` can give, at its edges and beside others; each case of stdin says what became of lent junk.
 ghost use mathlib.Core.Path.{_≡_};
 ghost use Rattle.pages.specs.Page.{Puts};
 ghost use Rattle.refusals_build.specs.Given.{behindCase};
@@ -15,7 +14,7 @@ mod given;
 
 // What the first place of the graph holds before a call; each further place holds one more.
 const GRAPH: u32 = 0xCD00_0000;
-// A longer graph is not printed.
+// A longer graph is not printed in full.
 const PRINTED: usize = 256;
 
 // A graph of rows of one place: the first, and whether each further one holds the node before its own.

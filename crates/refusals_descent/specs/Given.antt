@@ -5,6 +5,7 @@ use Prim.Native.Nat.{ℕ, zero, suc, _*_}
 use lib.Dec.{eqb}
 use lib.ListN.{getD, set}
 use lib.Ieee.{Float}
+use Rattle.rules.specs.Calls.{descentWords, taughtScratch}
 use Rattle.cases.specs.declared.Cursor.{Cursor}
 use Rattle.cases.specs.Text.{wordAt, sizeAt, wordsAt, behind}
 use Rattle.refusals.specs.Given.{wideOf, bitsOf}
@@ -32,7 +33,7 @@ callOf xs =
 unfoldable pub callAt : List ℕ → Cursor → Read
 callAt text c = record { call = callOf (wordsAt 12 text c); cursor = behind 12 text c }
 
--- 1,024 nodes in lists of one: a lane each, two draws a node, and places as docs/LAYOUT.md has them
+-- 1,024 nodes in lists of one: a lane and two draws each, and as many places as a call asks for
 abbrev pub mostOf : Bool → Call
 mostOf begins =
     record {
@@ -43,11 +44,11 @@ mostOf begins =
       k = 1;
       s = 1;
       lanes = 1024;
-      draws = 2048;
-      «state_u» = 300032;
+      draws = 2 * 1024;
+      «state_u» = descentWords 1024 1;
       «state_f» = 1024;
-      words = 528384;
-      floats = 528384;
+      words = taughtScratch 1024;
+      floats = taughtScratch 1024;
     }
 
 -- `count` words from the place `at` on, as far as there are places

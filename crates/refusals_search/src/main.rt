@@ -1,5 +1,4 @@
-// Settled squares D to G and J, and every row of the table that `search` can give, at its edges and beside the rows after it: each case of
-// stdin is called on lent places full of junk, and says what became of them. stdin says what its numbers are.
+// Squares D to G and J and every row of the table that `search` can give, at its edges and beside others; each case of stdin says what became of lent junk.
 ghost use mathlib.Core.Path.{_≡_};
 ghost use Rattle.pages.specs.Page.{Puts};
 ghost use Rattle.refusals_search.specs.Given.{behindCase};

@@ -15,6 +15,7 @@ mod tally;
 const ORDERS: u32 = 44;
 // The length of a list of square I.
 const SQUARE_K: usize = 2;
+
 // A relay in an order that is filled in first: jobs have two words and eight moves each.
 fn in_order(
     n: usize,

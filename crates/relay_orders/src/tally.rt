@@ -1,6 +1,6 @@
 // How the orders of the sets came out: the lists that each ended in, counted where they differ.
 ghost use mathlib.Core.Path.{_≡_};
-ghost use Prim.Native.Nat.{_+_, _%_, _^_};
+ghost use Rattle.relay_orders.specs.Run.{sum};
 ghost use Rattle.relay_orders.specs.Tally.{unfilledLists, noOrder, apartBy, withSet, withOrder};
 
 /// The distance of an unfilled entry, 0x7F7FFFFF by its bits.
@@ -49,7 +49,7 @@ pub fn none() -> Tally
 }
 
 fn more(a: u32, b: u32) -> u32
-    ensures { λ r. ⌜ r ≡ (a + b) % 2 ^ 32 ⌝ }
+    ensures { λ r. ⌜ r ≡ sum a b ⌝ }
 {
     std::num::wrapping_add_u32(a, b)
 }

@@ -7,7 +7,7 @@ use Rattle.params.specs.Params.{params}
 use Rattle.replay_build.specs.declared.shape.Shape.{Shape}
 
 module _ (text : List ℕ) where
-  -- "`init_k`, `index_size`, `neighbor_neighbor_size`, threshold bits"
+  -- "`init_k`; L = `index_size`; `neighbor_neighbor_size`; threshold bits"
   unfoldable pub taughtAt : ℕ → ℕ → Cursor → Shape
   taughtAt dimension n c =
       let init-k = sizeAt 64 text c in

@@ -1,6 +1,5 @@
 // What a build left, beside the list's.
 ghost use mathlib.Core.Path.{_≡_};
-ghost use lib.ListN.{length};
 ghost use Rattle.replay_build.specs.Left.{behindSteps, besideAt};
 use cases::Cursor;
 use tallies::Outcome;

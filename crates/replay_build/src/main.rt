@@ -3,6 +3,7 @@ use cases::Cursor;
 use libc::STDOUT_FILENO;
 use rules::Answer;
 use shape::Shape;
+use tallies::JUNK;
 use tallies::Outcome;
 use tallies::Tally;
 
@@ -11,8 +12,6 @@ mod shape;
 
 // The kind of a build in a list.
 const BUILD: u32 = 1;
-// What lent places hold before a call.
-const JUNK: u32 = 0xCDCD_CDCD;
 
 // The call. `c` is the place of the answer in the list.
 fn built(text: &[u8], c: Cursor, s: Shape, lanes: &[f32], graph: &mut [u32]) -> Outcome {

@@ -5,10 +5,9 @@ use Prim.Native.Nat.{ℕ}
 use lib.Dec.{eqb}
 use lib.Ieee.{Float}
 use Rattle.cases.specs.declared.Cursor.{Cursor}
-use Rattle.cases.specs.declared.Size.{Size}
-use Rattle.cases.specs.Text.{wordAt, sizeAt, areaOf, behind}
+use Rattle.cases.specs.Text.{wordAt, areaOf}
 use Rattle.kinds.specs.Kinds.{behindState}
-use Rattle.states.specs.Read.{stateAt}
+use Rattle.states.specs.Read.{State, stateAt}
 use Rattle.states.specs.Same.{alike, alikeTo, sameBits}
 use Rattle.tallies.specs.declared.Outcome.{Outcome}
 use Rattle.tallies.specs.Tallies.{movedTo, joined}
@@ -21,17 +20,17 @@ comparedWith o s us fs words floats =
     let q = joined p (alike sameBits fs floats) 4 in
     joined q (alike eqb us words) 8
 
--- Nothing differs yet
-abbrev pub freshAt : Cursor → Outcome
-freshAt c = record { differs = 0; cursor = c }
-
 module _ (text : List ℕ) where
+  -- What stands next, read into two slices
+  abbrev pub stateRead : Outcome → Shape → List ℕ → List Float → State
+  stateRead o s words floats = stateAt text (s .n) (s .k) (o .cursor) words floats
+
   unfoldable pub besideAt : Outcome → Shape → List ℕ → List Float → List ℕ → List Float → Outcome
   besideAt o s us fs words floats =
-      let r = stateAt text (s .n) (s .k) (o .cursor) words floats in
+      let r = stateRead o s words floats in
       comparedWith (movedTo o (r .cursor)) s us fs (r .words) (r .floats)
 
-  -- A refusal (1)
+  -- A refusal (1), whose state is passed
   unfoldable pub refusedAt : Outcome → Cursor → Shape → Outcome
   refusedAt o c s = joined (movedTo o (behindState text (s .n) (s .k) c)) false 1
 
@@ -41,9 +40,3 @@ module _ (text : List ℕ) where
       let a = wordAt text (o .cursor) in
       let b = wordAt text (a .cursor) in
       joined (joined (movedTo o (b .cursor)) (eqb (a .value) cost) 5) (eqb (b .value) new) 5
-
-  -- How many draws there are, of at most so many, and the place behind them
-  unfoldable pub drawsAt : Cursor → ℕ → Size
-  drawsAt c most =
-      let count = sizeAt most text c in
-      record { value = count .value; cursor = behind (count .value) text (count .cursor) }

@@ -13,6 +13,6 @@ shapeAt text c =
     let s = sizeAt 64 text (k .cursor) in
     record { dimension = d .value; n = n .value; k = k .value; s = s .value; cursor = s .cursor }
 
--- "nk + 260n + (n*n + 31)/32 words"
+-- "nk + 260n + (n*n + 31)/32 words"; a product of a length over 65,536 is 0, and no state is as large
 unfoldable pub wordsLong : ℕ → ℕ → ℕ
 wordsLong n k = areaOf n k + areaOf 260 n + (areaOf n n + 31) / 32

@@ -1,10 +1,8 @@
 // What the calls of a descent answered and left, beside the list's.
 ghost use mathlib.Core.Path.{_≡_};
-ghost use lib.ListN.{length, take, drop};
-ghost use Rattle.replay_descent.specs.Left.{comparedWith, besideAt, refusedAt, countsAt, freshAt, drawsAt};
+ghost use Rattle.replay_descent.specs.Left.{comparedWith, stateRead, besideAt, refusedAt, countsAt};
 use crate::shape::Shape;
 use cases::Cursor;
-use cases::Size;
 use tallies::Outcome;
 
 // The state beside the list's, whose words and floats are given.
@@ -35,6 +33,8 @@ pub fn beside_read(
     floats: &mut [f32],
 ) -> Outcome
     ensures { λ r. ⌜ r ≡ besideAt (now (text .entry)) o s (now («state_u» .entry)) (now («state_f» .entry)) (now (words .entry)) (now (floats .entry)) ⌝ }
+    ensures { λ _. ⌜ now (words .exit) ≡ stateRead (now (text .entry)) o s (now (words .entry)) (now (floats .entry)) .words ⌝ }
+    ensures { λ _. ⌜ now (floats .exit) ≡ stateRead (now (text .entry)) o s (now (words .entry)) (now (floats .entry)) .floats ⌝ }
 {
     let cursor = states::read_state(text, o.cursor, s.n, s.k, words, floats);
     compared(tallies::at(o, cursor), s, state_u, state_f, words, floats)
@@ -57,27 +57,4 @@ pub fn counts(text: &[u8], o: Outcome, cost: usize, new: usize) -> Outcome
     let p = tallies::at(o, b.cursor);
     let q = tallies::and(p, a.value as usize == cost, tallies::COUNT);
     tallies::and(q, b.value as usize == new, tallies::COUNT)
-}
-
-/// Nothing differs yet.
-pub fn fresh(c: Cursor) -> Outcome
-    ensures { λ r. ⌜ r ≡ freshAt c ⌝ }
-{
-    Outcome {
-        differs: tallies::NOTHING,
-        cursor: c,
-    }
-}
-
-/// The draws of a call, after their number, to the front of the slice.
-pub fn read_draws(text: &[u8], c: Cursor, draws: &mut [u32]) -> Size
-    ensures { λ r. ⌜ r ≡ drawsAt (now (text .entry)) c (length (now (draws .entry))) ⌝ }
-{
-    let count = cases::read_size(text, c, draws.len());
-    let long = cases::least(count.value, draws.len());
-    let cursor = cases::read_words(text, count.cursor, &mut draws[..long]);
-    Size {
-        value: long,
-        cursor: cursor,
-    }
 }

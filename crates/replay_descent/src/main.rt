@@ -4,6 +4,7 @@ use libc::STDOUT_FILENO;
 use rules::Answer;
 use rules::IterateAnswer;
 use shape::Shape;
+use tallies::JUNK;
 use tallies::Outcome;
 use tallies::Tally;
 
@@ -14,8 +15,6 @@ mod shape;
 const DESCENT: u32 = 3;
 
 const ITERATION: u32 = 4;
-// What lent places hold before a call.
-const JUNK: u32 = 0xCDCD_CDCD;
 
 // How an iteration came out, and the place behind its draws.
 struct Turned {
@@ -96,7 +95,7 @@ fn turn(
     state_f: &mut [f32],
 ) -> Turned {
     let mut draws: [u32; 512] = [0; 512];
-    let drawn = left::read_draws(text, c, &mut draws);
+    let drawn = refusals::read_run(text, c, &mut draws);
     let long = cases::least(drawn.value, draws.len());
     let cursor = drawn.cursor;
     Turned {
@@ -171,13 +170,13 @@ fn descended(
     state_f: &mut [f32],
 ) -> Outcome {
     let mut draws: [u32; 512] = [0; 512];
-    let drawn = left::read_draws(text, c, &mut draws);
+    let drawn = refusals::read_run(text, c, &mut draws);
     let long = cases::least(drawn.value, draws.len());
     let count = shape::read_iterations(text, drawn.cursor);
     let behind = kinds::pass_runs(text, count.cursor, count.value);
     let o = begun(
         text,
-        left::fresh(behind),
+        tallies::fresh(behind),
         s,
         lanes,
         &draws[..long],
@@ -218,7 +217,7 @@ fn single(
     state_f: &mut [f32],
 ) -> Outcome {
     let draws = read_given(text, c, s, state_u, state_f);
-    let o = left::fresh(kinds::pass_runs(text, draws, 1));
+    let o = tallies::fresh(kinds::pass_runs(text, draws, 1));
     let t = turn(text, draws, o, s, lanes, state_u, state_f);
     t.outcome
 }

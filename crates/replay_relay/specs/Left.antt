@@ -8,14 +8,10 @@ use lib.Ieee.{Float}
 use Rattle.cases.specs.Text.{sizeAt, areaOf, wordsAt, behind}
 use Rattle.replays.specs.Compare.{apart, holdsOnly}
 use Rattle.tallies.specs.declared.Outcome.{Outcome}
-use Rattle.tallies.specs.Tallies.{movedTo, joined}
+use Rattle.tallies.specs.Tallies.{junk, movedTo, joined}
 use Rattle.relays.specs.Places.{sum, listAt, lengthAt, jobAt}
 use Rattle.relays.specs.Bits.{agreeing}
 use Rattle.replay_relay.specs.declared.shape.Shape.{Shape}
-
--- What lent places hold before a call, and what stands where there is no place
-abbrev pub junk : ℕ
-junk = 0xCDCDCDCD
 
 module _ (text : List ℕ) where
   -- Nodes (difference 3), and distances by their bits (4)
@@ -53,7 +49,7 @@ module _ (text : List ℕ) where
       let q = joined p (eqb (apart (take long reports) (wordsAt long text (o .cursor))) long) 5 in
       joined q (holdsOnly junk (drop long reports)) 6
 
--- The node that a job's last step concerned: "u" up to its fourth step, then "v"
+-- The node that a job's last step concerned: "of u in a job's first four steps, of v in its last four"
 unfoldable pub concernedIn : Shape → ℕ → List ℕ → List ℕ → ℕ
 concernedIn s job jobs words =
     let steps = getD words (sum (jobAt (s .n) (s .k) job) 2) junk in

@@ -1,13 +1,12 @@
 // What a move and a close left, beside the list's.
 ghost use mathlib.Core.Path.{_≡_};
 ghost use lib.ListN.{getD};
-ghost use Rattle.replay_relay.specs.Left.{junk, besideAt, outsideAt, roomAt, leftAt, concernedIn, reportedAt};
+ghost use Rattle.tallies.specs.Tallies.{junk};
+ghost use Rattle.replay_relay.specs.Left.{besideAt, outsideAt, roomAt, leftAt, concernedIn, reportedAt};
 use crate::shape;
 use crate::shape::Shape;
+use tallies::JUNK;
 use tallies::Outcome;
-
-/// What lent places hold before a call.
-pub const JUNK: u32 = 0xCDCD_CDCD;
 
 /// The outcome with two slices beside the list's: nodes, and distances by their bits.
 pub fn beside(text: &[u8], o: Outcome, nodes: &[u32], dists: &[f32]) -> Outcome

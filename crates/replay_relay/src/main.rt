@@ -1,9 +1,9 @@
 // Replays the oracle's relays on lent places full of junk, and compares the list that each move leaves, the lists at the end and the reports.
 use cases::Cursor;
-use left::JUNK;
 use libc::STDOUT_FILENO;
 use rules::Answer;
 use shape::Shape;
+use tallies::JUNK;
 use tallies::Outcome;
 use tallies::Tally;
 
@@ -123,11 +123,7 @@ fn opened(
         &mut scratch_u,
         &mut scratch_f,
     );
-    let o = Outcome {
-        differs: tallies::NOTHING,
-        cursor: c,
-    };
-    let p = tallies::and(o, done(answer), tallies::REFUSED);
+    let p = tallies::and(tallies::fresh(c), done(answer), tallies::REFUSED);
     tallies::with_scratch(p, &scratch_u, &scratch_f)
 }
 

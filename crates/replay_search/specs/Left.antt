@@ -8,11 +8,7 @@ use Rattle.cases.specs.declared.Cursor.{Cursor}
 use Rattle.cases.specs.Text.{wordAt, sizeAt, wordsAt, behind}
 use Rattle.replays.specs.Compare.{apart, holdsOnly}
 use Rattle.tallies.specs.declared.Outcome.{Outcome}
-use Rattle.tallies.specs.Tallies.{joined}
-
--- What lent places hold before a call
-abbrev pub junk : ℕ
-junk = 0xCDCDCDCD
+use Rattle.tallies.specs.Tallies.{junk, freshAt, joined}
 
 module _ (text : List ℕ) where
   -- Behind m, m nodes, m bits and the takings
@@ -26,8 +22,7 @@ module _ (text : List ℕ) where
   besideAt c nodes bits takings =
       let b = behind (length nodes) text c in
       let t = wordAt text (behind (length bits) text b) in
-      let o : Outcome = record { differs = 0; cursor = t .cursor } in
-      let p = joined o (eqb (apart nodes (wordsAt (length nodes) text c)) (length nodes)) 3 in
+      let p = joined (freshAt (t .cursor)) (eqb (apart nodes (wordsAt (length nodes) text c)) (length nodes)) 3 in
       let q = joined p (eqb (apart bits (wordsAt (length bits) text b)) (length bits)) 4 in
       joined q (eqb (t .value) takings) 5
 

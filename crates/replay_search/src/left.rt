@@ -3,10 +3,8 @@ ghost use mathlib.Core.Path.{_≡_};
 ghost use Rattle.replay_search.specs.Left.{passedAt, besideAt, foundAt};
 use crate::shape;
 use cases::Cursor;
+use tallies::JUNK;
 use tallies::Outcome;
-
-/// What lent places hold before a call.
-pub const JUNK: u32 = 0xCDCD_CDCD;
 
 /// Passes the answer of a case: what differs is known.
 pub fn pass_answer(text: &[u8], c: Cursor, differs: u32) -> Outcome
@@ -27,11 +25,7 @@ fn beside(text: &[u8], c: Cursor, nodes: &[u32], bits: &[u32], takings: usize) -
     let a = replays::compare(text, c, nodes);
     let b = replays::compare(text, a.cursor, bits);
     let t = cases::read_word(text, b.cursor);
-    let cursor = t.cursor;
-    let o = Outcome {
-        differs: tallies::NOTHING,
-        cursor: cursor,
-    };
+    let o = tallies::fresh(t.cursor);
     let p = tallies::and(o, a.at == nodes.len(), tallies::NODES);
     let q = tallies::and(p, b.at == bits.len(), tallies::BITS);
     tallies::and(q, t.value as usize == takings, tallies::COUNT)

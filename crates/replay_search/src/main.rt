@@ -1,9 +1,9 @@
 // Replays the oracle's searches on lent places full of junk, and compares what each answers and leaves with what the Rust answered.
 use cases::Cursor;
-use left::JUNK;
 use libc::STDOUT_FILENO;
 use rules::SearchAnswer;
 use shape::Shape;
+use tallies::JUNK;
 use tallies::Outcome;
 use tallies::Tally;
 
@@ -12,6 +12,7 @@ mod shape;
 
 // The kind of a search in a list.
 const SEARCH: u32 = 2;
+
 // The call. `c` is the place of the answer in the list.
 fn searched(
     text: &[u8],

@@ -14,6 +14,14 @@ use Rattle.tallies.specs.declared.Tally.{Tally}
 unfoldable pub noCase : Tally
 noCase = record { compared = 0; differ = 0; cursor = first }
 
+-- What lent places hold before a call
+abbrev pub junk : ℕ
+junk = 0xCDCDCDCD
+
+-- Nothing differs yet
+abbrev pub freshAt : Cursor → Outcome
+freshAt c = record { differs = 0; cursor = c }
+
 abbrev pub movedTo : Outcome → Cursor → Outcome
 movedTo o c = record { differs = o .differs; cursor = c }
 

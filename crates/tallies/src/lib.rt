@@ -1,8 +1,8 @@
-// What the replays read, count and say: a list, how a case came out, and how many did.
+// What tests over files read, count and say: a list, how a case came out, and how many did.
 ghost use mathlib.Core.Path.{_≡_};
 ghost use Rattle.io.specs.Counts.{Counts};
 ghost use Rattle.pages.specs.Page.{Puts};
-ghost use Rattle.tallies.specs.Tallies.{noCase, movedTo, joined, scratched, counted, closed, differsText, tallyText};
+ghost use Rattle.tallies.specs.Tallies.{noCase, freshAt, movedTo, joined, scratched, counted, closed, differsText, tallyText};
 use cases::Cursor;
 use libc::STDOUT_FILENO;
 
@@ -25,6 +25,9 @@ pub const SCRATCH: u32 = 7;
 /// Other words differ: contexts, visited pairs.
 pub const WORDS: u32 = 8;
 
+/// What lent places hold before a call.
+pub const JUNK: u32 = 0xCDCD_CDCD;
+
 /// What differs first in a case, and the place behind it.
 pub struct Outcome {
     pub differs: u32,
@@ -46,6 +49,16 @@ pub fn none() -> Tally
         compared: 0,
         differ: 0,
         cursor: cases::start(),
+    }
+}
+
+/// Nothing differs yet.
+pub fn fresh(c: Cursor) -> Outcome
+    ensures { λ r. ⌜ r ≡ freshAt c ⌝ }
+{
+    Outcome {
+        differs: NOTHING,
+        cursor: c,
     }
 }
 

@@ -5,11 +5,11 @@ use borrow.Author.Needs.{needs}
 use Rattle.replay_descent.proofs.descended.Statement.{statement}
 use Rattle.replay_descent.proofs.descended.Tie as tie
 
-slice-aggregate-read-draws : tie.Need-slice-aggregate-read-draws
-slice-aggregate-read-draws c = search needs
+slice-aggregate-read-run : tie.Need-slice-aggregate-read-run
+slice-aggregate-read-run c = search needs
 
-read-draws-requires : tie.Need-read-draws-requires
-read-draws-requires c κs = search needs
+read-run-requires : tie.Need-read-run-requires
+read-run-requires c κs = search needs
 
 least-requires : tie.Need-least-requires
 least-requires c κs = search needs
@@ -48,8 +48,8 @@ pub descended-spec : {M : Type 1} → statement M
 descended-spec =
     tie.close
     (tie.spec
-    slice-aggregate-read-draws
-    read-draws-requires
+    slice-aggregate-read-run
+    read-run-requires
     least-requires
     read-iterations-requires
     pass-runs-requires

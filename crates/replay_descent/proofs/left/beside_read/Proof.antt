@@ -1,4 +1,6 @@
 -- `replay_descent::left::beside_read` meets its contract. Assumes nothing.
+use mathlib.Core.Path.{ap}
+use Rattle.states.specs.Read.{State}
 use Rattle.replay_descent.specs.Left.{besideAt}
 use borrow.Author.Needs.{needs}
 use Rattle.replay_descent.proofs.left.beside_read.Statement.{statement}
@@ -24,7 +26,8 @@ unfolding besideAt
 returns c =
     let moved = c .before .before .before in
     let read = moved .before .before .before .before .before in
-    rw (c .compared .ensures, moved .at .ensures, ← read .read-state .ensures)
+    let state = read .read-state .ensures in
+    (rw (c .compared .ensures, moved .at .ensures, ← state), (ap (λ (s : State). s .words) state, ap (λ (s : State). s .floats) state))
 
 pub beside-read-spec : {M : Type 1} → statement M
 beside-read-spec =

@@ -13,6 +13,9 @@ compare-requires-2 c κs = search needs
 read-word-requires : tie.Need-read-word-requires
 read-word-requires c κs = search needs
 
+fresh-requires : tie.Need-fresh-requires
+fresh-requires c κs = search needs
+
 and-requires : tie.Need-and-requires
 and-requires c κs = search needs
 
@@ -32,7 +35,7 @@ returns c =
     let read = p .before .before .before in
     let bits = read .before in
     let nodes = bits .before in
-    rw (c .and3 .ensures, c .before .before .and2 .ensures, p .and .ensures, read .read-word .ensures, bits .compare2 .ensures .0, bits .compare2 .ensures .1, nodes .compare .ensures .0, nodes .compare .ensures .1)
+    rw (c .and3 .ensures, c .before .before .and2 .ensures, p .and .ensures, p .before .before .fresh .ensures, read .read-word .ensures, bits .compare2 .ensures .0, bits .compare2 .ensures .1, nodes .compare .ensures .0, nodes .compare .ensures .1)
 
 pub beside-spec : {M : Type 1} → statement M
 beside-spec =
@@ -41,6 +44,7 @@ beside-spec =
     compare-requires
     compare-requires-2
     read-word-requires
+    fresh-requires
     and-requires
     and-requires-2
     cast-and
