@@ -1,6 +1,6 @@
--- One iteration and one look, worked by the Rust (cases 88 and 114 of oracle/lists/small.txt), computed. Assumes nothing.
+-- One iteration and one look, worked by the Rust (cases 88 and 114 of oracle/lists/small.txt), and three steps by 01's words, computed. Assumes nothing.
 use mathlib.Core.Path.{_≡_, refl}
-use mathlib.Core.Bool.{Bool, true}
+use mathlib.Core.Bool.{Bool, true, false}
 use mathlib.Core.List.{List, [], _∷_}
 use Prim.Native.Nat.{ℕ}
 use lib.Ieee.{Float, binary32, ofBits, toBits, add, sub, mul, lt, eq}
@@ -12,7 +12,7 @@ use Rattle.rules.specs.Rows.{emptySlot}
 use Rattle.rules.specs.Search.{farthest}
 use Rattle.rules.specs.Offers.{look, pop, offer}
 use Rattle.rules.specs.Descent.{Context, Descent, Iterated, cross, ownPairs, risingWith, risingPairs, passes, offerTo, update, visit, isVisited, unvisit, meet, meetAll, newOf, oldOf, swap, shuffleFrom, shuffle, drawnAfter, keptNew, keptBack, renew, renewAll, unvisitAll, membersBack, reversedOld, reversedNew, contextOf, renewed, iterated}
-use Rattle.rules.specs.Relay.{Stage, fresh, looked, popped, Relay, isPopped, nextStage, nextList, moveSecond, moved}
+use Rattle.rules.specs.Relay.{Stage, fresh, looked, measured, popped, Relay, isPopped, nextStage, nextList, moveFirst, moveSecond, moved}
 use Rattle.rules.specs.DescentPlaces.{wordOf, pairWords, bitAt}
 
 abbrev f : ℕ → Float
@@ -96,3 +96,27 @@ relay second =
 pub look-at-last : moved 1 (relay fresh) 0 ≡ relay (looked true)
 unfolding moved moveSecond isPopped nextStage nextList look farthest ofBits lt
 look-at-last = refl
+
+-- ---- steps of a job (1, 2) with k 1, at the distance of list 1's last: by 01's sentences
+
+abbrev pair : ℕ → List Neighbor → Stage → Relay
+pair v list first =
+    record {
+      lists = [] ∷ list ∷ [] ∷ [];
+      jobs = record { u = 1; v = v; distance = f 1065353216; first = first; second = fresh } ∷ [];
+    }
+
+-- "look (taken up unless the distance is greater than the list's last)": an equal distance is taken up
+pub look-at-equal : moved 1 (pair 2 (neighbor 0 (f 1065353216) ∷ []) fresh) 0 ≡ pair 2 (neighbor 0 (f 1065353216) ∷ []) (looked true)
+unfolding moved moveFirst isPopped nextStage nextList look farthest ofBits lt
+look-at-equal = refl
+
+-- "all eight of a job with u = v, do nothing": its look takes nothing up
+pub look-of-itself : moved 1 (pair 1 (neighbor 0 (f 1065353216) ∷ []) fresh) 0 ≡ pair 1 (neighbor 0 (f 1065353216) ∷ []) (looked false)
+unfolding moved moveFirst isPopped nextStage nextList
+look-of-itself = refl
+
+-- "pop the last if so"
+pub pop-of-last : moved 1 (pair 2 (neighbor 0 (f 1065353216) ∷ neighbor 2 (f 1065353216) ∷ []) (measured true true)) 0 ≡ pair 2 (neighbor 0 (f 1065353216) ∷ []) (popped true true)
+unfolding moved moveFirst isPopped nextStage nextList pop
+pop-of-last = refl
