@@ -17,6 +17,7 @@ use Rattle.rules.specs.Build.{entry, others, exactList, taking, hop, two
 use Rattle.rules.specs.Search.{andThen, worksOut, rootsFound, mark, isSeen, started, visit, visits, farthest, joins, takeThese, rowEnded, expand, walk, searchOf}
 use Rattle.rules.specs.SearchCall.{SearchOutcome, searchTable, searchZeroed, searchEnds, searchWork, searchObeys, searchRule}
 use Rattle.rules.specs.Descent.{listAt}
+use Rattle.rules.proofs.Cosines.{under-nan}
 use Rattle.rules.proofs.SquareI.{f0, f1, f2, f7, f9, f49, half, lanes, d, listsI, ends}
 
 -- "`init_k` 2; `index_size` 2; `neighbor_neighbor_size` 10; threshold 0.5", and with another `index_size`
@@ -75,8 +76,8 @@ pub record Settled : Type 0 where
   pub f : gives (asked (0 ∷ 3 ∷ []) 1 f7) 1 1 (3 ∷ 9 ∷ []) (b0 ∷ 9 ∷ [])
   -- "G: root 1, k 1, query 2: node 2 at 1 replaces node 1 at 1; 2 expanded."
   pub g : gives (asked (1 ∷ []) 1 f2) 1 2 (2 ∷ 9 ∷ []) (b1 ∷ 9 ∷ [])
-  -- "H: two equal points, dp = dr = djk = 0: no occlusion."
-  pub h : occludes (between (f0 ∷ f0 ∷ f0 ∷ []) 1) half false (entry (between (f0 ∷ f0 ∷ f0 ∷ []) 1) 0 1) (entry (between (f0 ∷ f0 ∷ f0 ∷ []) 1) 0 2) ≡ false
+  -- "H: two equal points, dp = dr = djk = 0: no occlusion.", at any threshold
+  pub h : (threshold : Float) → occludes (between (f0 ∷ f0 ∷ f0 ∷ []) 1) threshold false (entry (between (f0 ∷ f0 ∷ f0 ∷ []) 1) 0 1) (entry (between (f0 ∷ f0 ∷ f0 ∷ []) 1) 0 2) ≡ false
   -- "I: .. list 0 is 1 at 1, 2 at 9; lists 1, 2, 3 begin with 0 at 1, 9, 49."
   pub i : listAt listsI 0 ≡ neighbor 1 f1 ∷ neighbor 2 f9 ∷ []
   pub i-begin : map (take 1) (drop 1 listsI) ≡ (neighbor 0 f1 ∷ []) ∷ (neighbor 0 f9 ∷ []) ∷ (neighbor 0 f49 ∷ []) ∷ []
@@ -93,7 +94,7 @@ settled =
       e = (refl, refl, refl);
       f = (refl, refl, refl);
       g = (refl, refl, refl);
-      h = refl;
+      h = λ (threshold : Float). under-nan threshold;
       i = ap (λ (ls : List (List Neighbor)). listAt ls 0) ends;
       i-begin = ap (λ (ls : List (List Neighbor)). map (take 1) (drop 1 ls)) ends;
     }
