@@ -37,7 +37,7 @@ answer x = cond (fit x) (Fit x) Unfit
 unfoldable pub distanceOf : List Float → List Float → Distance
 distanceOf a b = answer (totalOf zero32 a b)
 
--- what a distance answer says: 0 and the distance, or refusal 10
+-- what a distance answer says: 0 and the distance, or refusal 10 (proofs/Distances.antt ties it to row 10)
 pub record Measure : Type 0 where
   pub number : ℕ
   pub value : Float
