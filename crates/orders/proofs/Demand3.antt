@@ -268,10 +268,10 @@ module _ (l : OpenLent) (O : Opens l) where
         exists = in-turn l;
         finishes = closed-finishes;
         finished = finished-is;
-        same-nodes = λ (order other : List ℕ) (D : Finishes l order) (E : Finishes l other) (c : Room l).
-            ap (λ (o : CloseOutcome). o .nodes) (closed-is order D c) ∙ ap listWords (same-lists order other D E) ∙ sym (ap (λ (o : CloseOutcome). o .nodes) (closed-is other E c));
-        same-distances = λ (order other : List ℕ) (D : Finishes l order) (E : Finishes l other) (c : Room l).
-            ap (λ (o : CloseOutcome). o .distances) (closed-is order D c) ∙ ap listFloats (same-lists order other D E) ∙ sym (ap (λ (o : CloseOutcome). o .distances) (closed-is other E c));
+        same-nodes = λ (order other : List ℕ) (D : Finishes l order) (E : Finishes l other) (c e : Room l).
+            ap (λ (o : CloseOutcome). o .nodes) (closed-is order D c) ∙ ap listWords (same-lists order other D E) ∙ sym (ap (λ (o : CloseOutcome). o .nodes) (closed-is other E e));
+        same-distances = λ (order other : List ℕ) (D : Finishes l order) (E : Finishes l other) (c e : Room l).
+            ap (λ (o : CloseOutcome). o .distances) (closed-is order D c) ∙ ap listFloats (same-lists order other D E) ∙ sym (ap (λ (o : CloseOutcome). o .distances) (closed-is other E e));
       }
 
 pub demand3 : (l : OpenLent) → Asked l → Demand3 l

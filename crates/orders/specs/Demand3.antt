@@ -176,6 +176,6 @@ pub record Demand3 (l : OpenLent) : Type 0 where
   -- "When all are finished", and no sooner: a close that answers has found them so
   pub finishes : (order : List ℕ) (c : Room l) → closed l order c .said ≡ noRefusal → Finishes l order
   pub finished : (order : List ℕ) → Finishes l order → (c : Room l) → Finished l order c
-  -- "So no order of the heads changes a list."
-  pub same-nodes : (order other : List ℕ) → Finishes l order → Finishes l other → (c : Room l) → closed l order c .nodes ≡ closed l other c .nodes
-  pub same-distances : (order other : List ℕ) → Finishes l order → Finishes l other → (c : Room l) → closed l order c .distances ≡ closed l other c .distances
+  -- "So no order of the heads changes a list.", whatever stood where a close writes
+  pub same-nodes : (order other : List ℕ) → Finishes l order → Finishes l other → (c e : Room l) → closed l order c .nodes ≡ closed l other e .nodes
+  pub same-distances : (order other : List ℕ) → Finishes l order → Finishes l other → (c e : Room l) → closed l order c .distances ≡ closed l other e .distances
