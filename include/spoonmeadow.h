@@ -10,10 +10,17 @@
    - After success scratch is all zero, all of it, also where it is longer than asked. What it held before never matters.
    - A const slice is never written.
 
+   Of the thread that calls two things are taken for granted, and no call tests them:
+
+   - Its floating-point environment is the default one: rounding to nearest, subnormals kept. In another the library names another counter;
+     spoonmeadow_environment_is_default, below, tells.
+   - Its stack has 32 KiB of room. A build uses most of it, the others less than 8 KiB (README.md has each).
+
    Distances are binary32. Search gives them by their bits; for fit distances the order of bits is the order of distances. */
 #ifndef SPOONMEADOW_H
 #define SPOONMEADOW_H
 
+#include <float.h>
 #include <stddef.h>
 #include <stdint.h>
 
@@ -96,6 +103,35 @@ typedef struct {
     size_t cost;
     size_t total;
 } spoonmeadow_iterated;
+
+/* Whether the floating-point environment of this thread is the default one, which every call takes for granted: 1 where it is, otherwise 0.
+
+   A program linked with -ffast-math flushes subnormals from its start on, and so may one that loads a shared library linked like that; fesetround
+   and its like round another way. Lanes 1e-20 and 0 and query 0 show what goes wrong: counter 1 is at distance 0 and counter 0 at the square of
+   1e-20, some 1e-40, which is subnormal. Flushed to 0 it ties with counter 1, and counter 0, the lower number, is named.
+
+   Call it once on each thread that calls the library, before its first call, and again after anything that may have changed the environment;
+   it takes some nanoseconds. It looks at three sums of its own, not at the processor's flags: a subnormal and itself, which is 0 where results
+   are flushed or where a subnormal is read as 0; and two that lie halfway between two floats, of which the default rounds one down (upward does
+   not) and one up (downward and toward zero do not). Everything is volatile, so that no compiler works it out beforehand, also under -ffast-math.
+   It sees the arithmetic that it is compiled to, which is SSE's as the library's is; compiled to x87's (-mfpmath=387) it cannot tell, and says 0.
+   It does not look for exceptions that are unmasked: where inexact or a subnormal traps, it traps, as the library would. It leaves them flagged.
+
+   It is C in this header, tested and not proved, and no part of the archive. */
+static inline int spoonmeadow_environment_is_default(void) {
+#if defined(FLT_EVAL_METHOD) && FLT_EVAL_METHOD == 2
+    return 0;
+#else
+    volatile float subnormal = 1e-40f;
+    volatile float one = 1.0f, next = 1.00000011920928955078125f; /* 1 and the float above it, 1 + 2^-23 */
+    volatile float half = 5.9604644775390625e-8f;                /* half a step there, 2^-24 */
+    volatile float twice, down, up;
+    twice = subnormal + subnormal;
+    down = one + half;
+    up = next + half;
+    return twice > 0.0f && !(down > one) && up > next;
+#endif
+}
 
 /* Teaches a game of n counters: writes its graph, index_size places a counter, the nodes of a row and then n in every place left.
    Refusals: 1, 2, 3, 4 (init_k, index_size, neighbor_neighbor_size), 5, 6, and 10 at the first unfit pair i < j, i rising and then j.
