@@ -1,6 +1,6 @@
 //! The lines of README.md: teaches four counters, names two, is refused once, and lets four threads improve lists.
-use spoonmeadow::{Game, Heads, Lists, Params, Points, Refusal, Relay};
-fn main() -> Result<(), Refusal> {
+use spoonmeadow::{Error, Game, Heads, Lists, Params, Points, Relay};
+fn main() -> Result<(), Error> {
     let points = Points::new(1, vec![0.0, 1.0, 3.0, 7.0]);
     let game = Game::teach(points.clone(), Params::default())?;
     println!("{:?}", game.search(&[0, 3], &[6.5], 2)?.neighbors);

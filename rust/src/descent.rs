@@ -1,7 +1,8 @@
 //! A descent: its beginning and its iterations.
+use crate::environment::expect_default;
 use crate::lent::Both;
 use crate::refusal::{told, Call};
-use crate::{lengths, lent, Lists, Points, Refusal, Scratch};
+use crate::{lengths, lent, Error, Lists, Points, Scratch};
 
 /// What one iteration answers: its cost, and the total of new.
 #[derive(Clone, Copy, Debug, PartialEq, Eq)]
@@ -35,14 +36,15 @@ impl<'p> Descent<'p> {
     /// assert!(descent.lists().list(0).is_empty());
     /// let refused = Descent::begin(&points, 2, 3, &draws).unwrap_err();
     /// assert_eq!(refused.to_string(), "4: a whole-number parameter is outside its range");
-    /// # Ok::<(), spoonmeadow::Refusal>(())
+    /// # Ok::<(), spoonmeadow::Error>(())
     /// ```
     pub fn begin(
         points: &'p Points,
         k: usize,
         s: usize,
         draws: &[u32],
-    ) -> Result<Descent<'p>, Refusal> {
+    ) -> Result<Descent<'p>, Error> {
+        expect_default()?;
         let n = points.n();
         let passes = lengths::taught(n, k);
         let words = vec![0; lengths::made(passes, lengths::descent_words(n, k))];
@@ -83,9 +85,10 @@ impl<'p> Descent<'p> {
     /// let answer = descent.iterate(&draws)?;
     /// assert_eq!(answer.new, (0..4).map(|u| descent.lists().list(u).len()).sum());
     /// assert_eq!(descent.iterate(&[]).unwrap_err().to_string(), "11: there are too few draws");
-    /// # Ok::<(), spoonmeadow::Refusal>(())
+    /// # Ok::<(), spoonmeadow::Error>(())
     /// ```
-    pub fn iterate(&mut self, draws: &[u32]) -> Result<Iterated, Refusal> {
+    pub fn iterate(&mut self, draws: &[u32]) -> Result<Iterated, Error> {
+        expect_default()?;
         let (points, sizes) = (self.points, (self.k, self.s));
         let (state, scratch) = self.lent();
         let answer = lent::iterate(points, sizes, draws, state, scratch);

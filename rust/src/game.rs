@@ -1,7 +1,8 @@
 //! A taught game: build and search.
+use crate::environment::expect_default;
 use crate::lent::{self, Looked};
 use crate::refusal::{told, Call};
-use crate::{lengths, Neighbor, Points, Refusal, Scratch};
+use crate::{lengths, Error, Neighbor, Points, Scratch};
 
 /// The parameters of a build. Each setter takes them and hands them back changed.
 #[derive(Clone, Copy, Debug, PartialEq)]
@@ -74,9 +75,10 @@ impl Game {
     /// let params = Params::default().init_k(2).index_size(2).neighbor_neighbor_size(10);
     /// let game = Game::teach(Points::new(1, vec![0.0, 1.0, 3.0, 7.0]), params)?;
     /// assert_eq!(game.graph(), [1, 2, 0, 2, 1, 2, 2, 4]);
-    /// # Ok::<(), spoonmeadow::Refusal>(())
+    /// # Ok::<(), spoonmeadow::Error>(())
     /// ```
-    pub fn teach(points: Points, params: Params) -> Result<Game, Refusal> {
+    pub fn teach(points: Points, params: Params) -> Result<Game, Error> {
+        expect_default()?;
         let (n, init_k, index_size) = (points.n(), params.init_k, params.index_size);
         let passes = lengths::game(n, init_k, index_size);
         let mut graph = vec![0; lengths::made(passes, lengths::graph(n, index_size))];
@@ -109,9 +111,9 @@ impl Game {
     ///
     /// let refused = game.search(&[0, 3], &[f32::NAN], 2).unwrap_err();
     /// assert_eq!(refused.to_string(), "10: the distance of node 0 and the query is unfit");
-    /// # Ok::<(), spoonmeadow::Refusal>(())
+    /// # Ok::<(), spoonmeadow::Error>(())
     /// ```
-    pub fn search(&self, roots: &[u32], query: &[f32], k: usize) -> Result<Found, Refusal> {
+    pub fn search(&self, roots: &[u32], query: &[f32], k: usize) -> Result<Found, Error> {
         self.search_in(&mut Scratch::new(), roots, query, k)
     }
 
@@ -122,7 +124,8 @@ impl Game {
         roots: &[u32],
         query: &[f32],
         k: usize,
-    ) -> Result<Found, Refusal> {
+    ) -> Result<Found, Error> {
+        expect_default()?;
         let n = self.points.n();
         let passes = lengths::game(n, k, self.index_size);
         let mut nodes = vec![0; lengths::made(passes, k)];

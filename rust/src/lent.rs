@@ -1,4 +1,5 @@
 //! Each entry over slices: the call of [`raw`] with the pointers and the counts of what is lent, and so safe. For who lends buffers of their own.
+//! Nothing here looks at the floating-point environment: see [`environment_is_default`](crate::environment_is_default).
 use crate::raw::{self, Found, Iterated, Said};
 use crate::{Lists, Params, Points};
 

@@ -2,7 +2,8 @@
 //!
 //! What a caller owes: each pointer is not null and aligned, also where its count is 0; the count is the number of elements behind it that may be
 //! read (and, where it is `*mut`, written); slices of one call do not overlap, except two that are both `*const`. A Rust slice meets all of it.
-//! Nothing more is owed: any contents and any numbers may be lent, every call ends, and bad input gets a refusal.
+//! Nothing more is owed of what is lent: any contents and any numbers may be, every call ends, and bad input gets a refusal. What an answer is worth rests
+//! on the floating-point environment too: see [`environment_is_default`](crate::environment_is_default).
 
 /// What every call but search and iterate says: a refusal with its places, or 0, 0, 0.
 #[repr(C)]

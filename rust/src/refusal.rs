@@ -1,4 +1,5 @@
 //! Refusals: the numbers of the library's table, with their places and in words.
+use crate::Error;
 use std::fmt;
 
 /// Which call was refused: rows 10 and 13 read differently in different calls.
@@ -19,7 +20,8 @@ pub enum Call {
 /// ```
 /// use spoonmeadow::{Game, Params, Points};
 /// let lanes = vec![0.0, 1.0, f32::NAN, 7.0];
-/// let refusal = Game::teach(Points::new(1, lanes), Params::default()).unwrap_err();
+/// let error = Game::teach(Points::new(1, lanes), Params::default()).unwrap_err();
+/// let refusal = error.refusal().unwrap();
 /// assert_eq!(refusal.to_string(), "10: the distance of nodes 0 and 2 is unfit");
 /// assert_eq!((refusal.number(), refusal.places()), (10, (0, 2)));
 /// ```
@@ -49,16 +51,16 @@ impl Refusal {
 }
 
 /// A refusal's number and places that a call said, as a result.
-pub(crate) fn told(call: Call, number: usize, first: usize, second: usize) -> Result<(), Refusal> {
+pub(crate) fn told(call: Call, number: usize, first: usize, second: usize) -> Result<(), Error> {
     if number == 0 {
         return Ok(());
     }
-    Err(Refusal {
+    Err(Error::Refused(Refusal {
         call,
         number,
         first,
         second,
-    })
+    }))
 }
 
 impl fmt::Display for Refusal {

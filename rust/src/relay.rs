@@ -1,6 +1,7 @@
 //! A relay: candidate pairs offered to lists step by step, from any number of threads in any order.
+use crate::environment::expect_default;
 use crate::refusal::{told, Call};
-use crate::{lengths, lent, Lists, Points, Refusal, Scratch};
+use crate::{lengths, lent, Error, Lists, Points, Scratch};
 use std::sync::atomic::{AtomicUsize, Ordering};
 use std::sync::{Mutex, MutexGuard, PoisonError};
 
@@ -43,9 +44,10 @@ impl Relay {
     /// let closed = relay.close()?;
     /// let nearest: Vec<u32> = closed.lists.list(0).iter().map(|e| e.node).collect();
     /// assert_eq!(nearest, [1, 2]);
-    /// # Ok::<(), spoonmeadow::Refusal>(())
+    /// # Ok::<(), spoonmeadow::Error>(())
     /// ```
-    pub fn open(points: &Points, lists: &Lists, jobs: &[(u32, u32)]) -> Result<Relay, Refusal> {
+    pub fn open(points: &Points, lists: &Lists, jobs: &[(u32, u32)]) -> Result<Relay, Error> {
+        expect_default()?;
         let (n, k) = (points.n(), lists.k());
         let pairs: Vec<u32> = jobs.iter().flat_map(|&(u, v)| [u, v]).collect();
         let passes = lengths::taught(n, k);
@@ -69,14 +71,16 @@ impl Relay {
     }
 
     /// Takes a job's next step. Refusal 13: the job is absent or finished, and nothing has changed.
-    pub fn step(&mut self, job: usize) -> Result<(), Refusal> {
+    pub fn step(&mut self, job: usize) -> Result<(), Error> {
+        expect_default()?;
         let state = (&mut self.words[..], &mut self.floats[..]);
         let said = lent::move_job((self.n, self.k), job, state);
         told(Call::Move, said.refusal, said.first, said.second)
     }
 
     /// The lists and the reports, when all jobs are finished. Refusal 13 names the lowest unfinished job. The relay stays as it is.
-    pub fn close(&self) -> Result<Closed, Refusal> {
+    pub fn close(&self) -> Result<Closed, Error> {
+        expect_default()?;
         let length = lengths::lists(self.n, self.k);
         let mut nodes = vec![0; length];
         let mut distances = vec![0.0; length];
@@ -104,7 +108,7 @@ impl Relay {
 /// let closed = heads.into_relay().close()?;
 /// let nearest: Vec<u32> = closed.lists.list(0).iter().map(|e| e.node).collect();
 /// assert_eq!(nearest, [1, 2]);
-/// # Ok::<(), spoonmeadow::Refusal>(())
+/// # Ok::<(), spoonmeadow::Error>(())
 /// ```
 #[derive(Debug)]
 pub struct Heads {
@@ -125,13 +129,13 @@ impl Heads {
     }
 
     /// Takes a job's next step under the lock.
-    pub fn step(&self, job: usize) -> Result<(), Refusal> {
+    pub fn step(&self, job: usize) -> Result<(), Error> {
         self.lock().step(job)
     }
 
-    /// Takes all steps of all jobs with this many threads at once, each on a job of its own; the first refusal of a thread is given.
+    /// Takes all steps of all jobs with this many threads at once, each on a job of its own; the first error of a thread is given.
     /// The lists do not depend on how the threads run; which offers were taken up may.
-    pub fn drive(&self, threads: usize) -> Result<(), Refusal> {
+    pub fn drive(&self, threads: usize) -> Result<(), Error> {
         let jobs = self.lock().jobs();
         let next = AtomicUsize::new(0);
         let head = || loop {

@@ -1,5 +1,5 @@
 //! One relay driven by four threads, again and again: its lists are always the same, and the least k of what was held and offered.
-use spoonmeadow::{Closed, Heads, Lists, Neighbor, Points, Refusal, Relay, STEPS};
+use spoonmeadow::{Closed, Error, Heads, Lists, Neighbor, Points, Relay, STEPS};
 
 const ROUNDS: usize = 400;
 const NODES: usize = 24;
@@ -51,7 +51,7 @@ fn least(points: &Points, held: &Lists, jobs: &[(u32, u32)]) -> Vec<Vec<Neighbor
 }
 
 /// By one thread, job by job.
-fn alone(points: &Points, held: &Lists, jobs: &[(u32, u32)]) -> Result<Closed, Refusal> {
+fn alone(points: &Points, held: &Lists, jobs: &[(u32, u32)]) -> Result<Closed, Error> {
     let mut relay = Relay::open(points, held, jobs)?;
     for job in 0..jobs.len() {
         for _ in 0..STEPS {
@@ -61,14 +61,14 @@ fn alone(points: &Points, held: &Lists, jobs: &[(u32, u32)]) -> Result<Closed, R
     relay.close()
 }
 
-fn together(points: &Points, held: &Lists, jobs: &[(u32, u32)]) -> Result<Closed, Refusal> {
+fn together(points: &Points, held: &Lists, jobs: &[(u32, u32)]) -> Result<Closed, Error> {
     let heads = Heads::new(Relay::open(points, held, jobs)?);
     heads.drive(4)?;
     heads.into_relay().close()
 }
 
 /// Four threads that each take one step of any unfinished job and hand over, so that the steps of different jobs mix at every turn.
-fn mixed(points: &Points, held: &Lists, jobs: &[(u32, u32)]) -> Result<Closed, Refusal> {
+fn mixed(points: &Points, held: &Lists, jobs: &[(u32, u32)]) -> Result<Closed, Error> {
     let heads = Heads::new(Relay::open(points, held, jobs)?);
     std::thread::scope(|scope| {
         for head in 0..4 {

@@ -1,5 +1,5 @@
 //! The settled squares C to G and J of document 01 over the boundary, and the refusals of a build, a search and a descent in words.
-use spoonmeadow::{Call, Descent, Game, Params, Points, Refusal, Scratch};
+use spoonmeadow::{Call, Descent, Error, Game, Params, Points, Scratch};
 
 fn squares() -> Points {
     Points::new(1, vec![0.0, 1.0, 3.0, 7.0])
@@ -23,7 +23,7 @@ fn named(game: &Game, roots: &[u32], query: f32, k: usize) -> (Vec<(u32, f32)>, 
     (pairs, found.takings)
 }
 
-fn words<T>(answer: Result<T, Refusal>) -> String {
+fn words<T>(answer: Result<T, Error>) -> String {
     answer.err().map_or("done".to_string(), |r| r.to_string())
 }
 
@@ -69,6 +69,7 @@ fn j_the_refusals() {
     let one = Game::teach(Points::new(1, vec![0.0]), params());
     assert_eq!(words(one), "2: the number of nodes is outside 2 to 4,096");
     let twice = game.search(&[0, 0], &[7.0], 2).unwrap_err();
+    let twice = twice.refusal().unwrap();
     assert_eq!(
         (twice.number(), twice.places(), twice.call()),
         (7, (1, 0), Call::Search)
@@ -78,6 +79,7 @@ fn j_the_refusals() {
         "7: the root at place 1 is no node, or repeats an earlier one"
     );
     let nan = game.search(&[0, 3], &[f32::NAN], 2).unwrap_err();
+    let nan = nan.refusal().unwrap();
     assert_eq!((nan.number(), nan.places()), (10, (0, 4)));
     assert_eq!(
         nan.to_string(),
