@@ -69,6 +69,7 @@ pub struct Game {
 
 impl Game {
     /// Teaches a game. Refusals: 1, 2, 3, 4, 5, and 10 at the first unfit pair.
+    /// As every call does, it looks at the floating-point environment first and gives [`Error::Environment`] where it is not the default one.
     ///
     /// ```
     /// use spoonmeadow::{Game, Params, Points};
