@@ -13,13 +13,13 @@ use Rattle.rules.specs.declared.Neighbor.{Neighbor}
 use Rattle.rules.specs.Loops.{turns, has, part, putPart}
 use Rattle.rules.specs.Lists.{neighbor, nodeOf, nodesOf, entries}
 use Rattle.rules.specs.Rows.{isEmpty, emptySlot, live}
-use Rattle.rules.specs.Build.{Between, offered, linkBack, link, linkedSlots}
+use Rattle.rules.specs.Build.{Between, slotRead, offered, linkBack, link, linkedSlots}
 use Rattle.rules.specs.Calls.{BuildSizes}
 use Rattle.rules.proofs.Loops.{turns-turn, row-in}
-use Rattle.lists.proofs.Slices.{length-entries, entries-take, take-entries, getD-entries, nodesOf-entries}
+use Rattle.lists.proofs.Slices.{length-entries, entries-take, take-entries, nodesOf-entries}
 use Rattle.lists.proofs.Plain.{all-at}
 use Rattle.rows.specs.Live.{LiveIn}
-use Rattle.rows.proofs.Laws.{slots-most, entries-append, entries-from, part-entries}
+use Rattle.rows.proofs.Laws.{entries-append, entries-from, part-entries}
 use Rattle.offers.specs.Sound.{Sound}
 use Rattle.offers.proofs.Laws.{sound-offered, sound-part, sound-put}
 use Rattle.links.specs.Links.{Room, Linked, linksOf, linksAll}
@@ -119,38 +119,28 @@ least-one : (w v : ℕ) → 1 ≤ w → v ≤ v * w
 least-one w zero h = zero-le
 least-one w (suc v) h = let i = least-one w v h in let m = suc-mul v w in omega arith
 
--- "read slot i + v": it is one of the n times w, and these are few
-pub record SlotIn (n w s : ℕ) : Type 0 where
-  pub within : s < n * w
-  pub most : n * w ≤ 262144
-
-pub slot-at : {n w v i : ℕ} → n ≤ 4096 → w ≤ 64 → v < n → i < w → SlotIn n w (i + v)
-slot-at {n} {w} {v} {i} h g l k =
+-- the slot that is read is one of the n times w
+pub slot-within : {n w v i : ℕ} → v < n → i < w → slotRead w v i < n * w
+slot-within {n} {w} {v} {i} l k =
     let r = row-in n w v l in
     let m = least-one w v (omega arith) in
-    record { within = omega arith; most = slots-most n w h g }
+    omega arith
 
-module _ (n w : ℕ) (ns : List ℕ) (ds : List Float) (d : Between) (t : Float) (v i : ℕ) (h : n * w ≤ length ns) (g : n * w ≤ length ds) (l : i + v < n * w) (S : Sound n (entries (n * w) ns ds)) (z : Float) where
-  read-is : getD (entries (n * w) ns ds) (i + v) (emptySlot 0) ≡ neighbor (getD ns (i + v) 0) (getD ds (i + v) z)
-  read-is = getD-entries (n * w) (i + v) ns ds 0 z (emptySlot 0) l h g
-
-  pub slot-below : isEmpty (neighbor (getD ns (i + v) 0) (getD ds (i + v) z)) ≡ false → getD ns (i + v) 0 < n
-  slot-below b =
+-- the entry e that stands in it
+module _ (n w v i : ℕ) (ns : List ℕ) (ds : List Float) {e : Neighbor} (S : Sound n (entries (n * w) ns ds)) (r : e ≡ getD (entries (n * w) ns ds) (slotRead w v i) (emptySlot 0)) where
+  pub slot-below : n * w ≤ length ns → n * w ≤ length ds → slotRead w v i < n * w → isEmpty e ≡ false → nodeOf e < n
+  slot-below h g l =
       let long = length-entries (n * w) ns ds h g in
-      let here = all-at (λ (e : Neighbor). isEmpty e ≡ false → nodeOf e < n) (entries (n * w) ns ds) (i + v) (emptySlot 0) S (omega arith) in
-      let node = ap nodeOf read-is in
-      let below = here (ap isEmpty read-is ∙ b) in
-      omega arith
+      rw r (all-at (λ (x : Neighbor). isEmpty x ≡ false → nodeOf x < n) (entries (n * w) ns ds) (slotRead w v i) (emptySlot 0) S (omega arith))
 
-  pub link-empty : isEmpty (neighbor (getD ns (i + v) 0) (getD ds (i + v) z)) ≡ true → Linked n w (link d t w v i (entries (n * w) ns ds)) ns ds
+  pub link-empty : (d : Between) (t : Float) → isEmpty e ≡ true → Linked n w (link d t w v i (entries (n * w) ns ds)) ns ds
   unfolding link
-  link-empty b = record { list = rw (read-is, b); sound = S }
+  link-empty d t b = record { list = rw (← r, b); sound = S }
 
-  pub link-on : isEmpty (neighbor (getD ns (i + v) 0) (getD ds (i + v) z)) ≡ false → {ns' : List ℕ} {ds' : List Float}
-      → Linked n w (linkBack d t w v (neighbor (getD ns (i + v) 0) (getD ds (i + v) z)) (entries (n * w) ns ds)) ns' ds'
-      → Linked n w (link d t w v i (entries (n * w) ns ds)) ns' ds'
+  pub link-on : (d : Between) (t : Float) → isEmpty e ≡ false → {ns' : List ℕ} {ds' : List Float}
+      → Linked n w (linkBack d t w v e (entries (n * w) ns ds)) ns' ds' → Linked n w (link d t w v i (entries (n * w) ns ds)) ns' ds'
   unfolding link
-  link-on b made = record { list = made .list ∙ rw (read-is, b); sound = made .sound }
+  link-on d t b made = record { list = made .list ∙ rw (← r, b); sound = made .sound }
 
 -- ---- turns over the slots
 

@@ -1,12 +1,12 @@
 // Step 5 of build, the reverse links: the n times `index_size` slots are a flat list of entries in two slices.
 ghost use mathlib.Core.Path.{_≡_};
 ghost use Prim.Native.Nat.{_*_, _≤_, _<_};
-ghost use lib.ListN.{length};
+ghost use lib.ListN.{length, getD};
 ghost use Rattle.rules.specs.Loops.{has, part};
 ghost use Rattle.rules.specs.Lists.{entries, nodesOf};
-ghost use Rattle.rules.specs.Rows.{live};
+ghost use Rattle.rules.specs.Rows.{live, emptySlot};
 ghost use Rattle.rules.specs.Distance.{between};
-ghost use Rattle.rules.specs.Build.{linkBack, link};
+ghost use Rattle.rules.specs.Build.{slotRead, linkBack, link};
 ghost use Rattle.offers.specs.Sound.{Sound};
 ghost use Rattle.links.specs.Links.{Room, Linked, linksOf, linksAll};
 use rules::Neighbor;
@@ -76,7 +76,28 @@ fn link_back(
     );
 }
 
-// Link `i` of node `v`: the slot read is i + v.
+// The slot that link `i` of node `v` reads: i + v. No other function knows which it is.
+fn slot_read(index_size: usize, v: NodeId, i: usize) -> Slot
+    requires { ⌜ (v .0 < 4096) × (i < «index_size») × («index_size» ≤ 64) ⌝ }
+    ensures { λ r. ⌜ r .0 ≡ slotRead «index_size» (v .0) i ⌝ }
+{
+    let first = v.0 as usize;
+    Slot(i + first)
+}
+
+// The entry that stands in a slot.
+fn entry_in(n: usize, index_size: usize, nodes: &[u32], dists: &[f32], slot: Slot) -> Neighbor
+    requires { ⌜ (slot .0 < n * «index_size») × (n * «index_size» ≤ length (now nodes)) × (n * «index_size» ≤ length (now dists)) ⌝ }
+    ensures { λ r. ⌜ r ≡ getD (entries (n * «index_size») (now (nodes .entry)) (now (dists .entry))) (slot .0) (emptySlot 0) ⌝ }
+{
+    let at = slot.0;
+    Neighbor {
+        node: NodeId(nodes[at]),
+        distance: dists[at],
+    }
+}
+
+// Link `i` of node `v`: an empty slot links nothing.
 fn link(
     lanes: &[f32],
     dimension: usize,
@@ -94,18 +115,11 @@ fn link(
     requires { ⌜ Room n «index_size» (now nodes) (now dists) (now «pool_nodes») (now «pool_dists») ⌝ }
     ensures { λ _. ⌜ Linked n «index_size» (link (between (now (lanes .entry)) dimension) threshold «index_size» (v .0) i (entries (n * «index_size») (now (nodes .entry)) (now (dists .entry)))) (now (nodes .exit)) (now (dists .exit)) ⌝ }
 {
-    let first = v.0 as usize;
-    let slot = Slot(i + first);
-    let at = slot.0;
-    let distance = dists[at];
-    if distance == rows::EMPTY {
+    let slot = slot_read(index_size, v, i);
+    let e = entry_in(n, index_size, nodes, dists, slot);
+    if e.distance == rows::EMPTY {
         return;
     }
-    let node = nodes[at];
-    let e = Neighbor {
-        node: NodeId(node),
-        distance: distance,
-    };
     link_back(
         lanes,
         dimension,
