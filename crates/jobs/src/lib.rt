@@ -3,6 +3,7 @@ ghost use mathlib.Core.Path.{_≡_};
 ghost use Prim.Native.Nat.{_-_, _≤_};
 ghost use lib.ListN.{length, getD};
 ghost use Rattle.jobs.specs.Jobs.{halfFormed, distanceFormed, jobTest, PendingHalf, PendingJob, keptWords};
+use rules::NodeId;
 
 /// The steps done of the second half, of all steps done.
 pub fn second(steps: usize) -> usize
@@ -57,10 +58,10 @@ pub fn job_formed(words: &[u32], x: f32, n: usize) -> bool
     requires { ⌜ 15 ≤ length (now words) ⌝ }
     ensures { λ r. ⌜ r ≡ jobTest n (now (words .entry)) x ⌝ }
 {
-    let u = words[0] as usize;
-    let v = words[1] as usize;
+    let u = NodeId(words[0]);
+    let v = NodeId(words[1]);
     let steps = words[2] as usize;
-    let equal = u == v;
+    let equal = u.0 == v.0;
     if 8 < steps {
         return false;
     }
@@ -73,20 +74,20 @@ pub fn job_formed(words: &[u32], x: f32, n: usize) -> bool
     if !zeros::words_zero(&words[7..15], 0) {
         return false;
     }
-    if n <= u {
+    if n <= u.0 as usize {
         return false;
     }
-    if n <= v {
+    if n <= v.0 as usize {
         return false;
     }
     distance_formed(equal, x)
 }
 
 /// 1 where a half offers to node `w`'s list, has pushed and has not yet popped, else 0.
-fn pending_half(node: usize, w: usize, steps: usize, taken: u32) -> usize
-    ensures { λ r. ⌜ PendingHalf node w steps taken r ⌝ }
+fn pending_half(node: NodeId, w: NodeId, steps: usize, taken: u32) -> usize
+    ensures { λ r. ⌜ PendingHalf (node .0) (w .0) steps taken r ⌝ }
 {
-    if node != w {
+    if node.0 != w.0 {
         return 0;
     }
     if taken != 1 {
@@ -102,13 +103,13 @@ fn pending_half(node: usize, w: usize, steps: usize, taken: u32) -> usize
 }
 
 /// How many of a job's halves have pushed to node `w`'s list and not yet popped.
-pub fn pending(words: &[u32], w: usize) -> usize
+pub fn pending(words: &[u32], w: NodeId) -> usize
     requires { ⌜ 15 ≤ length (now words) ⌝ }
-    ensures { λ r. ⌜ PendingJob (now (words .entry)) w r ⌝ }
+    ensures { λ r. ⌜ PendingJob (now (words .entry)) (w .0) r ⌝ }
 {
     let steps = words[2] as usize;
-    let first = pending_half(words[0] as usize, w, steps, words[3]);
-    let later = pending_half(words[1] as usize, w, second(steps), words[5]);
+    let first = pending_half(NodeId(words[0]), w, steps, words[3]);
+    let later = pending_half(NodeId(words[1]), w, second(steps), words[5]);
     first + later
 }
 

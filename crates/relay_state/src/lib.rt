@@ -7,6 +7,7 @@ ghost use Rattle.rules.specs.RelayPlaces.{relayFormed};
 ghost use Rattle.zeros.specs.Zeros.{allBelow};
 ghost use Rattle.jobs.specs.Jobs.{jobTest};
 ghost use Rattle.relay_state.specs.State.{jobsTest, PendingAll, roomTest, roomAt, Sized};
+use rules::NodeId;
 
 /// Whether each of the first `count` jobs is well formed: 15 words a job, from place 1 on.
 fn each_formed(jobs: &[u32], dists: &[f32], count: usize, n: usize) -> bool
@@ -43,9 +44,9 @@ fn jobs_formed(jobs: &[u32], dists: &[f32], n: usize) -> bool
 }
 
 /// How many halves of the first `count` jobs have pushed to node `w`'s list and not yet popped.
-fn pending_at(jobs: &[u32], count: usize, w: usize) -> usize
+fn pending_at(jobs: &[u32], count: usize, w: NodeId) -> usize
     requires { ⌜ (count ≤ 64) × (length (now jobs) ≡ 1024) ⌝ }
-    ensures { λ r. ⌜ PendingAll (now (jobs .entry)) count w r ⌝ }
+    ensures { λ r. ⌜ PendingAll (now (jobs .entry)) count (w .0) r ⌝ }
 {
     let mut total = 0;
     let mut i = 0;
@@ -90,7 +91,7 @@ fn rooms_formed(words: &[u32], floats: &[f32], n: usize, k: usize, count: usize)
         let from = w * room;
         let to = from + room;
         let len = words[lens + w] as usize;
-        let want = k + pending_at(&words[jobs..], count, w);
+        let want = k + pending_at(&words[jobs..], count, NodeId(w as u32));
         if !room_formed(&words[from..to], &floats[from..to], len, want, n) {
             return false;
         }

@@ -11,29 +11,23 @@ shared-slice-read-steps c = search needs
 cast-steps : tie.Need-cast-steps
 cast-steps c = omega (arith, c .shared-slice-known2 .given 2)
 
+shared-slice-read-t7 : tie.Need-shared-slice-read-t7
+shared-slice-read-t7 c = search needs
+
 shared-slice-read-pending-half : tie.Need-shared-slice-read-pending-half
 shared-slice-read-pending-half c = search needs
-
-cast-pending-half : tie.Need-cast-pending-half
-cast-pending-half c = omega (arith, c .shared-slice-known3 .given 0)
-
-shared-slice-read-pending-half-2 : tie.Need-shared-slice-read-pending-half-2
-shared-slice-read-pending-half-2 c = search needs
 
 pending-half-requires : tie.Need-pending-half-requires
 pending-half-requires c κs = search needs
 
-shared-slice-read-pending-half-3 : tie.Need-shared-slice-read-pending-half-3
-shared-slice-read-pending-half-3 c = search needs
-
-cast-pending-half-2 : tie.Need-cast-pending-half-2
-cast-pending-half-2 c = omega (arith, c .shared-slice-known5 .given 1)
+shared-slice-read-t7-2 : tie.Need-shared-slice-read-t7-2
+shared-slice-read-t7-2 c = search needs
 
 second-requires : tie.Need-second-requires
 second-requires c κs = search needs
 
-shared-slice-read-pending-half-4 : tie.Need-shared-slice-read-pending-half-4
-shared-slice-read-pending-half-4 c = search needs
+shared-slice-read-pending-half-2 : tie.Need-shared-slice-read-pending-half-2
+shared-slice-read-pending-half-2 c = search needs
 
 pending-half-requires-2 : tie.Need-pending-half-requires-2
 pending-half-requires-2 c κs = search needs
@@ -50,14 +44,12 @@ pending-spec =
     (tie.spec
     shared-slice-read-steps
     cast-steps
+    shared-slice-read-t7
     shared-slice-read-pending-half
-    cast-pending-half
-    shared-slice-read-pending-half-2
     pending-half-requires
-    shared-slice-read-pending-half-3
-    cast-pending-half-2
+    shared-slice-read-t7-2
     second-requires
-    shared-slice-read-pending-half-4
+    shared-slice-read-pending-half-2
     pending-half-requires-2
     add-result
     returns)

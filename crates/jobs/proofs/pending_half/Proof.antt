@@ -13,13 +13,13 @@ returns-2 c = pending-left _ _ _ _ (c .before .if1 .left) (c .if2 .taken)
 
 returns-3 : tie.Need-returns-3
 returns-3 c =
-    let a = c .before .before .before .args in
-    subst (λ s. PendingHalf (a .node) (a .w) s (a .taken) 1) (sym (c .if3 .taken)) (pending-pushed _ _ _ (c .before .before .if1 .left) (c .before .if2 .left))
+    let a = c .before .before .before .before .before .args in
+    subst (λ s. PendingHalf (a .node .0) (a .w .0) s (a .taken) 1) (sym (c .if3 .taken)) (pending-pushed _ _ _ (c .before .before .if1 .left) (c .before .if2 .left))
 
 returns-4 : tie.Need-returns-4
 returns-4 c =
-    let a = c .before .before .before .before .args in
-    subst (λ s. PendingHalf (a .node) (a .w) s (a .taken) 1) (sym (c .if4 .taken)) (pending-measured _ _ _ (c .before .before .before .if1 .left) (c .before .before .if2 .left))
+    let a = c .before .before .before .before .before .before .args in
+    subst (λ s. PendingHalf (a .node .0) (a .w .0) s (a .taken) 1) (sym (c .if4 .taken)) (pending-measured _ _ _ (c .before .before .before .if1 .left) (c .before .before .if2 .left))
 
 returns-5 : tie.Need-returns-5
 returns-5 c = pending-other _ _ _ _ (c .before .before .before .if1 .left) (c .before .if3 .left) (c .if4 .left)

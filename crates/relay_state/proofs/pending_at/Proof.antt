@@ -9,7 +9,7 @@ use Rattle.relay_state.proofs.pending_at.Statement.{statement}
 use Rattle.relay_state.proofs.pending_at.Tie as tie
 
 abbrev Inv-loop : tie.InvT-loop
-Inv-loop jobs count w total₀ i₀ total i = (i ≤ count) × PendingAll jobs i w total
+Inv-loop jobs count w total₀ i₀ total i = (i ≤ count) × PendingAll jobs i (w .0) total
 
 abbrev μ-loop : tie.MeasureT-loop
 μ-loop jobs count w total₀ i₀ total i = count - i

@@ -69,6 +69,9 @@ part-pending-at-start c = let b = top (c .before) in let s = b .sizes in omega a
 part-pending-at-end : tie.Need-part-pending-at-end Inv-loop μ-loop
 part-pending-at-end c = let b = top (c .before) in let s = b .sizes in omega arith
 
+cast-t18 : tie.Need-cast-t18 Inv-loop μ-loop
+cast-t18 c = let b = top (c .before .before) in let s = b .sizes in omega arith
+
 pending-at-requires : tie.Need-pending-at-requires Inv-loop μ-loop
 pending-at-requires c κs =
     let b = top (c .before .before) in
@@ -165,6 +168,7 @@ rooms-formed-spec =
     sub-pending-at
     part-pending-at-start
     part-pending-at-end
+    cast-t18
     pending-at-requires
     add-want
     mul-room-formed
