@@ -27,21 +27,22 @@ fn flags_of(
     floats: &[f32],
     n: usize,
     k: usize,
-    node: usize,
+    node: NodeId,
     e: Neighbor,
     equal: bool,
     steps: usize,
     taken: u32,
     longer: u32,
 ) -> Flags
-    requires { ⌜ Sized n k (now words) (now floats) × Room n k (now words) (now floats) node ⌝ }
+    requires { ⌜ Sized n k (now words) (now floats) × Room n k (now words) (now floats) (node .0) ⌝ }
     requires { ⌜ (steps ≤ 3) × (taken ≤ 1) × (longer ≤ 1) ⌝ }
-    ensures { λ r. ⌜ NextFlags k equal e (listIn n k (now (words .entry)) (now (floats .entry)) node) (stageIn steps (eqb taken 1) (eqb longer 1)) r ⌝ }
+    ensures { λ r. ⌜ NextFlags k equal e (listIn n k (now (words .entry)) (now (floats .entry)) (node .0)) (stageIn steps (eqb taken 1) (eqb longer 1)) r ⌝ }
 {
     let room = k + 64;
-    let from = node * room;
+    let w = node.0 as usize;
+    let from = w * room;
     let to = from + room;
-    let len = words[n * room + node] as usize;
+    let len = words[n * room + w] as usize;
     halves::next_flags(
         &words[from..to],
         &floats[from..to],
@@ -61,20 +62,21 @@ fn list_step(
     floats: &mut [f32],
     n: usize,
     k: usize,
-    node: usize,
+    node: NodeId,
     e: Neighbor,
     steps: usize,
     taken: u32,
     longer: u32,
 )
-    requires { ⌜ Sized n k (now words) (now floats) × Room n k (now words) (now floats) node ⌝ }
-    requires { ⌜ (steps ≤ 3) × (steps ≡ 1 → taken ≡ 1 → getD (now words) (n * (k + 64) + node) 0 < k + 64) ⌝ }
-    ensures { λ _. ⌜ ListStepped n k (now (words .entry)) (now (floats .entry)) node e (stageIn steps (eqb taken 1) (eqb longer 1)) (now (words .exit)) (now (floats .exit)) ⌝ }
+    requires { ⌜ Sized n k (now words) (now floats) × Room n k (now words) (now floats) (node .0) ⌝ }
+    requires { ⌜ (steps ≤ 3) × (steps ≡ 1 → taken ≡ 1 → getD (now words) (n * (k + 64) + node .0) 0 < k + 64) ⌝ }
+    ensures { λ _. ⌜ ListStepped n k (now (words .entry)) (now (floats .entry)) (node .0) e (stageIn steps (eqb taken 1) (eqb longer 1)) (now (words .exit)) (now (floats .exit)) ⌝ }
 {
     let room = k + 64;
-    let from = node * room;
+    let w = node.0 as usize;
+    let from = w * room;
     let to = from + room;
-    let at = n * room + node;
+    let at = n * room + w;
     let len = words[at] as usize;
     let m = halves::next_list(
         &mut words[from..to],
@@ -95,13 +97,13 @@ fn move_half(
     n: usize,
     k: usize,
     job: usize,
-    node: usize,
-    other: u32,
+    node: NodeId,
+    other: NodeId,
     half: usize,
     steps: usize,
 )
-    requires { ⌜ HalfReady n k (now words) (now floats) job node half steps ⌝ }
-    ensures { λ _. ⌜ HalfMoved n k (now (words .entry)) (now (floats .entry)) job node other half steps (now (words .exit)) (now (floats .exit)) ⌝ }
+    requires { ⌜ HalfReady n k (now words) (now floats) job (node .0) half steps ⌝ }
+    ensures { λ _. ⌜ HalfMoved n k (now (words .entry)) (now (floats .entry)) job (node .0) (other .0) half steps (now (words .exit)) (now (floats .exit)) ⌝ }
 {
     let lens = n * (k + 64);
     let at = lens + n + 1 + 15 * job;
@@ -109,10 +111,10 @@ fn move_half(
     let taken = words[at + half];
     let longer = words[at + half + 1];
     let e = Neighbor {
-        node: NodeId(other),
+        node: other,
         distance: floats[lens + job],
     };
-    let equal = node == other as usize;
+    let equal = node.0 == other.0;
     let flags = flags_of(words, floats, n, k, node, e, equal, steps, taken, longer);
     list_step(words, floats, n, k, node, e, steps, taken, longer);
     jobs::keep(&mut words[at..end], half, flags.taken, flags.longer);
@@ -126,13 +128,13 @@ fn step(words: &mut [u32], floats: &mut [f32], n: usize, k: usize, job: usize)
     ensures { λ _. ⌜ Stepped n k (now (words .entry)) (now (floats .entry)) job (now (words .exit)) (now (floats .exit)) ⌝ }
 {
     let at = n * (k + 64) + n + 1 + 15 * job;
-    let u = words[at];
-    let v = words[at + 1];
+    let u = NodeId(words[at]);
+    let v = NodeId(words[at + 1]);
     let steps = words[at + 2] as usize;
     if steps < 4 {
-        move_half(words, floats, n, k, job, u as usize, v, 3, steps);
+        move_half(words, floats, n, k, job, u, v, 3, steps);
     } else {
-        move_half(words, floats, n, k, job, v as usize, u, 5, steps - 4);
+        move_half(words, floats, n, k, job, v, u, 5, steps - 4);
     }
 }
 

@@ -10,56 +10,59 @@ use Rattle.relay_move.proofs.list_step.Tie as tie
 add-room : tie.Need-add-room
 add-room c = let p = c .before .before .pre in let b = top (p .0 .0) (p .0 .1) in let s = b .sizes in omega arith
 
+cast-w : tie.Need-cast-w
+cast-w c = search needs
+
 mul-from : tie.Need-mul-from
-mul-from c = let p = c .before .before .pre in let b = top (p .0 .0) (p .0 .1) in let s = b .sizes in omega arith
+mul-from c = let p = c .before .before .before .pre in let b = top (p .0 .0) (p .0 .1) in let s = b .sizes in omega arith
 
 add-to : tie.Need-add-to
-add-to c = let p = c .before .before .pre in let b = top (p .0 .0) (p .0 .1) in let s = b .sizes in omega arith
+add-to c = let p = c .before .before .before .pre in let b = top (p .0 .0) (p .0 .1) in let s = b .sizes in omega arith
 
 mul-at : tie.Need-mul-at
-mul-at c = let p = c .before .before .pre in let b = top (p .0 .0) (p .0 .1) in let s = b .sizes in omega arith
+mul-at c = let p = c .before .before .before .pre in let b = top (p .0 .0) (p .0 .1) in let s = b .sizes in omega arith
 
 add-at : tie.Need-add-at
-add-at c = let p = c .before .before .pre in let b = top (p .0 .0) (p .0 .1) in let s = b .sizes in omega arith
+add-at c = let p = c .before .before .before .pre in let b = top (p .0 .0) (p .0 .1) in let s = b .sizes in omega arith
 
 mul-len : tie.Need-mul-len
-mul-len c = let p = c .before .before .pre in let b = top (p .0 .0) (p .0 .1) in let s = b .sizes in omega arith
+mul-len c = let p = c .before .before .before .pre in let b = top (p .0 .0) (p .0 .1) in let s = b .sizes in omega arith
 
 slice-read-len : tie.Need-slice-read-len
-slice-read-len c = let p = c .before .before .before .pre in let b = top (p .0 .0) (p .0 .1) in let s = b .sizes in let all = s .all-words in omega arith
+slice-read-len c = let p = c .before .before .before .before .pre in let b = top (p .0 .0) (p .0 .1) in let s = b .sizes in let all = s .all-words in omega arith
 
 cast-len : tie.Need-cast-len
-cast-len c = let a = c .before .before .before .args in omega (arith, c .slice-known3 .given (a .n * (a .k + 64) + a .node))
+cast-len c = let a = c .before .before .before .before .args in omega (arith, c .slice-known3 .given (a .n * (a .k + 64) + a .node .0))
 
 mul-next-list : tie.Need-mul-next-list
-mul-next-list c = let p = c .before .before .before .pre in let b = top (p .0 .0) (p .0 .1) in let s = b .sizes in omega arith
+mul-next-list c = let p = c .before .before .before .before .pre in let b = top (p .0 .0) (p .0 .1) in let s = b .sizes in omega arith
 
 sub-next-list : tie.Need-sub-next-list
-sub-next-list c = let p = c .before .before .before .pre in let b = top (p .0 .0) (p .0 .1) in let s = b .sizes in omega arith
+sub-next-list c = let p = c .before .before .before .before .pre in let b = top (p .0 .0) (p .0 .1) in let s = b .sizes in omega arith
 
 part-next-list-start : tie.Need-part-next-list-start
-part-next-list-start c = let p = c .before .before .before .pre in let b = top (p .0 .0) (p .0 .1) in let s = b .sizes in omega arith
+part-next-list-start c = let p = c .before .before .before .before .pre in let b = top (p .0 .0) (p .0 .1) in let s = b .sizes in omega arith
 
 part-next-list-end : tie.Need-part-next-list-end
-part-next-list-end c = let p = c .before .before .before .pre in let b = top (p .0 .0) (p .0 .1) in let s = b .sizes in let all = s .all-words in omega arith
+part-next-list-end c = let p = c .before .before .before .before .pre in let b = top (p .0 .0) (p .0 .1) in let s = b .sizes in let all = s .all-words in omega arith
 
 mul-next-list-2 : tie.Need-mul-next-list-2
-mul-next-list-2 c = let p = c .before .before .before .before .pre in let b = top (p .0 .0) (p .0 .1) in let s = b .sizes in omega arith
+mul-next-list-2 c = let p = c .before .before .before .before .before .pre in let b = top (p .0 .0) (p .0 .1) in let s = b .sizes in omega arith
 
 sub-next-list-2 : tie.Need-sub-next-list-2
-sub-next-list-2 c = let p = c .before .before .before .before .pre in let b = top (p .0 .0) (p .0 .1) in let s = b .sizes in omega arith
+sub-next-list-2 c = let p = c .before .before .before .before .before .pre in let b = top (p .0 .0) (p .0 .1) in let s = b .sizes in omega arith
 
 part-next-list-start-2 : tie.Need-part-next-list-start-2
-part-next-list-start-2 c = let p = c .before .before .before .before .pre in let b = top (p .0 .0) (p .0 .1) in let s = b .sizes in omega arith
+part-next-list-start-2 c = let p = c .before .before .before .before .before .pre in let b = top (p .0 .0) (p .0 .1) in let s = b .sizes in omega arith
 
 part-next-list-end-2 : tie.Need-part-next-list-end-2
-part-next-list-end-2 c = let p = c .before .before .before .before .pre in let b = top (p .0 .0) (p .0 .1) in let s = b .sizes in let all = s .all-floats in omega arith
+part-next-list-end-2 c = let p = c .before .before .before .before .before .pre in let b = top (p .0 .0) (p .0 .1) in let s = b .sizes in let all = s .all-floats in omega arith
 
 next-list-requires : tie.Need-next-list-requires
 next-list-requires c κs =
-    let p = c .before .before .before .before .before .pre in
-    let w = c .before .before .before .before .before .args .node in
-    let k = c .before .before .before .before .before .args .k in
+    let p = c .before .before .before .before .before .before .pre in
+    let w = c .before .before .before .before .before .before .args .node .0 in
+    let k = c .before .before .before .before .before .before .args .k in
     let e : w * (k + 64) + (k + 64) - w * (k + 64) ≡ k + 64 = omega arith in
     let size = p .0 .0 .some in
     let some = p .0 .1 .some in
@@ -67,9 +70,9 @@ next-list-requires c κs =
 
 cast-words : tie.Need-cast-words
 cast-words c =
-    let p = c .before .before .before .before .before .before .before .before .before .before .pre in
-    let w = c .before .before .before .before .before .before .before .before .before .before .args .node in
-    let k = c .before .before .before .before .before .before .before .before .before .before .args .k in
+    let p = c .before .before .before .before .before .before .before .before .before .before .before .pre in
+    let w = c .before .before .before .before .before .before .before .before .before .before .before .args .node .0 in
+    let k = c .before .before .before .before .before .before .before .before .before .before .before .args .k in
     let e : w * (k + 64) + (k + 64) - w * (k + 64) ≡ k + 64 = omega arith in
     let long = lent-long (p .0 .0) (p .0 .1) _ e in
     let few = c .before .before .before .before .next-list .ensures .few in
@@ -92,9 +95,9 @@ same-length-2 c = search needs
 
 returns : tie.Need-returns
 returns c =
-    let p = c .before .before .before .before .before .before .before .before .before .before .pre in
-    let w = c .before .before .before .before .before .before .before .before .before .before .args .node in
-    let k = c .before .before .before .before .before .before .before .before .before .before .args .k in
+    let p = c .before .before .before .before .before .before .before .before .before .before .before .pre in
+    let w = c .before .before .before .before .before .before .before .before .before .before .before .args .node .0 in
+    let k = c .before .before .before .before .before .before .before .before .before .before .before .args .k in
     let e : w * (k + 64) + (k + 64) - w * (k + 64) ≡ k + 64 = omega arith in
     list-stepped (p .0 .0) (p .0 .1) _ e _ _ (c .before .before .before .before .next-list .ensures)
 
@@ -103,6 +106,7 @@ list-step-spec =
     tie.close
     (tie.spec
     add-room
+    cast-w
     mul-from
     add-to
     mul-at

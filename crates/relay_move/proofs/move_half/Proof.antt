@@ -56,8 +56,8 @@ add-t19 c = search needs
 mul-t18 : tie.Need-mul-t18
 mul-t18 c = search needs
 
-slice-read-t26 : tie.Need-slice-read-t26
-slice-read-t26 c = search needs
+slice-read-t25 : tie.Need-slice-read-t25
+slice-read-t25 c = search needs
 
 flags-of-requires : tie.Need-flags-of-requires
 flags-of-requires c κs = search needs
@@ -79,7 +79,7 @@ part-keep-end c = search needs
 
 keep-requires : tie.Need-keep-requires
 keep-requires c κs =
-    let start = c .before .before .before .before .before .before .before .before .before .before .before .before .before .before .before .before in
+    let start = c .before .before .before .before .before .before .before .before .before .before .before .before .before .before .before .before .before .before in
     let a = start .args in
     let at = jobPlace (a .n) (a .k) (a .job) in
     let m : at + 15 - at ≡ 15 = omega arith in
@@ -93,7 +93,7 @@ same-length-2 c = search needs
 
 returns : tie.Need-returns
 returns c =
-    let start = c .before .before .before .before .before .before .before .before .before .before .before .before .before .before .before .before .before .before .before in
+    let start = c .before .before .before .before .before .before .before .before .before .before .before .before .before .before .before .before .before .before .before .before .before in
     let a = start .args in
     let at = jobPlace (a .n) (a .k) (a .job) in
     let m : at + 15 - at ≡ 15 = omega arith in
@@ -119,7 +119,7 @@ move-half-spec =
     slice-read-longer
     add-t19
     mul-t18
-    slice-read-t26
+    slice-read-t25
     flags-of-requires
     list-step-requires
     mul-keep

@@ -41,43 +41,37 @@ mul-at-2 c = let p = top (c .before .before) in omega arith
 add-at-4 : tie.Need-add-at-4
 add-at-4 c = let p = top (c .before .before) in omega arith
 
-mul-u : tie.Need-mul-u
-mul-u c = let p = top (c .before .before) in omega arith
-
-slice-read-u : tie.Need-slice-read-u
-slice-read-u c = let p = top (c .before .before .before) in omega arith
-
-add-v : tie.Need-add-v
-add-v c = let p = top (c .before .before .before) in omega arith
-
-mul-v : tie.Need-mul-v
-mul-v c = let p = top (c .before .before .before) in omega arith
-
-slice-read-v : tie.Need-slice-read-v
-slice-read-v c = let p = top (c .before .before .before .before) in omega arith
-
-add-steps : tie.Need-add-steps
-add-steps c = let p = top (c .before .before .before .before) in omega arith
-
 mul-steps : tie.Need-mul-steps
-mul-steps c = let p = top (c .before .before .before .before) in omega arith
+mul-steps c = let p = top (c .before .before) in omega arith
 
 slice-read-steps : tie.Need-slice-read-steps
-slice-read-steps c = let p = top (c .before .before .before .before .before) in omega arith
+slice-read-steps c = let p = top (c .before .before .before) in omega arith
+
+add-steps : tie.Need-add-steps
+add-steps c = let p = top (c .before .before .before) in omega arith
+
+mul-steps-2 : tie.Need-mul-steps-2
+mul-steps-2 c = let p = top (c .before .before .before) in omega arith
+
+slice-read-steps-2 : tie.Need-slice-read-steps-2
+slice-read-steps-2 c = let p = top (c .before .before .before .before) in omega arith
+
+add-steps-2 : tie.Need-add-steps-2
+add-steps-2 c = let p = top (c .before .before .before .before) in omega arith
+
+mul-steps-3 : tie.Need-mul-steps-3
+mul-steps-3 c = let p = top (c .before .before .before .before) in omega arith
+
+slice-read-steps-3 : tie.Need-slice-read-steps-3
+slice-read-steps-3 c = let p = top (c .before .before .before .before .before) in omega arith
 
 cast-steps : tie.Need-cast-steps
 cast-steps c = let a = c .before .before .before .before .before .args in omega (arith, c .slice-known5 .given (jobPlace (a .n) (a .k) (a .job) + 2))
-
-cast-move-half : tie.Need-cast-move-half
-cast-move-half c = let a = c .before .before .before .before .before .before .before .before .args in omega (arith, c .before .before .before .before .before .slice-known3 .given (jobPlace (a .n) (a .k) (a .job)))
 
 move-half-requires : tie.Need-move-half-requires
 move-half-requires c κs =
     let p = c .before .before .before .before .before .before .before .before .pre in
     ready-first (p .0 .0) (values (c .before .before .before .before .before .before)) (p .0 .1) _ (p .1 .0) (p .1 .1) (c .before .before .if1 .taken)
-
-cast-move-half-2 : tie.Need-cast-move-half-2
-cast-move-half-2 c = let a = c .before .before .before .before .before .before .before .before .args in omega (arith, c .before .before .before .before .slice-known4 .given (jobPlace (a .n) (a .k) (a .job) + 1))
 
 move-half-requires-2 : tie.Need-move-half-requires-2
 move-half-requires-2 c κs =
@@ -116,18 +110,16 @@ step-spec =
     add-at-3
     mul-at-2
     add-at-4
-    mul-u
-    slice-read-u
-    add-v
-    mul-v
-    slice-read-v
-    add-steps
     mul-steps
     slice-read-steps
+    add-steps
+    mul-steps-2
+    slice-read-steps-2
+    add-steps-2
+    mul-steps-3
+    slice-read-steps-3
     cast-steps
-    cast-move-half
     move-half-requires
-    cast-move-half-2
     move-half-requires-2
     same-length
     same-length-2
