@@ -77,14 +77,14 @@ fn fill(words: &mut [u32], v: u32)
 }
 
 /// The distance that is stored for a job of two nodes: 0.0 where they are equal.
-fn job_distance(lanes: &[f32], dimension: usize, n: usize, u: u32, v: u32) -> f32
-    requires { ⌜ (length (now lanes) ≡ n * dimension) × (u < n) × (v < n) ⌝ }
-    ensures { λ r. ⌜ r ≡ cond (eqb u v) zero32 (between (now (lanes .entry)) dimension u v) ⌝ }
+fn job_distance(lanes: &[f32], dimension: usize, n: usize, u: NodeId, v: NodeId) -> f32
+    requires { ⌜ (length (now lanes) ≡ n * dimension) × (u .0 < n) × (v .0 < n) ⌝ }
+    ensures { λ r. ⌜ r ≡ cond (eqb (u .0) (v .0)) zero32 (between (now (lanes .entry)) dimension (u .0) (v .0)) ⌝ }
 {
-    if u == v {
+    if u.0 == v.0 {
         return 0.0;
     }
-    metrics::between(lanes, dimension, NodeId(u), NodeId(v))
+    metrics::between(lanes, dimension, u, v)
 }
 
 /// Writes the number of jobs, each job with no step done, and the stored distances, with zeros behind them.
@@ -111,7 +111,7 @@ fn write_jobs(
         let at = 1 + 15 * i;
         words[at] = u;
         words[at + 1] = v;
-        floats[i] = job_distance(lanes, dimension, n, u, v);
+        floats[i] = job_distance(lanes, dimension, n, NodeId(u), NodeId(v));
         i += 1;
     }
 }

@@ -9,7 +9,7 @@ returns c = rw (eq-eqb _ _ (c .if1 .taken))
 
 between-requires : tie.Need-between-requires
 between-requires c κs =
-    let p = c .before .before .pre in
+    let p = c .before .before .before .before .pre in
     (lanes-there _ _ _ _ (p .0) (p .1), lanes-there _ _ _ _ (p .0) (p .2))
 
 returns-2 : tie.Need-returns-2
