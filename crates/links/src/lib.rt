@@ -30,7 +30,7 @@ fn is_linked(
     let from = row * index_size;
     let to = from + index_size;
     let len = rows::live_len(&dists[from..to], index_size);
-    table::has(&nodes[from..to], len, v.0)
+    table::has(&nodes[from..to], len, v)
 }
 
 // Offers `v` to the row of the entry `e` that was read in a slot, unless it is in the row's live part.

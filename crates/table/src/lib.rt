@@ -7,6 +7,7 @@ ghost use Rattle.rules.specs.Loops.{has};
 ghost use Rattle.rules.specs.Numbers.{outside};
 ghost use Rattle.rules.specs.Refusals.{decide, decisionOf, row1, row2, row3, row7, firstBadRoot};
 use rules::Answer;
+use rules::NodeId;
 use rules::Refusal;
 
 /// Whether `x` is outside `low` to `high`.
@@ -43,14 +44,14 @@ pub fn game(dimension: usize, most: usize, n: usize, lanes: usize) -> Answer
     Answer::Done
 }
 
-/// Whether `v` is among the first `len` of `xs`.
-pub fn has(xs: &[u32], len: usize, v: u32) -> bool
-    requires { ⌜ len ≤ length (now xs) ⌝ }
-    ensures { λ r. ⌜ r ≡ has v (take len (now (xs .entry))) ⌝ }
+/// Whether node `v` is among the first `len` of `nodes`.
+pub fn has(nodes: &[u32], len: usize, v: NodeId) -> bool
+    requires { ⌜ len ≤ length (now nodes) ⌝ }
+    ensures { λ r. ⌜ r ≡ has (v .0) (take len (now (nodes .entry))) ⌝ }
 {
     let mut i: usize = 0;
     while i < len {
-        if xs[i] == v {
+        if nodes[i] == v.0 {
             return true;
         }
         i += 1;
@@ -68,7 +69,7 @@ fn first_bad_root(n: usize, roots: &[u32]) -> usize
         if n <= v as usize {
             return i;
         }
-        if has(roots, i, v) {
+        if has(roots, i, NodeId(v)) {
             return i;
         }
         i += 1;
