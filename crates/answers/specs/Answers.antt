@@ -10,8 +10,8 @@ use Rattle.answers.specs.declared.Iterated.{Iterated}
 abbrev pub code_in : Said → Code
 code_in s = code s.refusal s.first s.second
 
-abbrev pub foundIn : Found → SearchSaid
-foundIn f = record { code = code f.refusal f.first f.second; m = f.m; takings = f.takings }
+abbrev pub found_in : Found → SearchSaid
+found_in f = record { code = code f.refusal f.first f.second; m = f.m; takings = f.takings }
 
-abbrev pub iteratedIn : Iterated → IterateSaid
-iteratedIn i = record { code = code i.refusal i.first i.second; cost = i.cost; new = i.total }
+abbrev pub iterated_in : Iterated → IterateSaid
+iterated_in i = record { code = code i.refusal i.first i.second; cost = i.cost; new = i.total }

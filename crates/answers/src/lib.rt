@@ -1,9 +1,9 @@
 // What an answer says over the C boundary: its refusal's number and places, and its counts.
 ghost use Rattle.std.specs.Prelude.{◌≡◌};
 ghost use Rattle.rules.specs.Refusals.{code, code_of, said_of};
-ghost use Rattle.rules.specs.SearchCall.{searchSaid};
-ghost use Rattle.rules.specs.DescentCall.{iterateSaid};
-ghost use Rattle.answers.specs.Answers.{code_in, foundIn, iteratedIn};
+ghost use Rattle.rules.specs.SearchCall.{search_said};
+ghost use Rattle.rules.specs.DescentCall.{iterate_said};
+ghost use Rattle.answers.specs.Answers.{code_in, found_in, iterated_in};
 
 use rules::{Answer, IterateAnswer, Refusal, SearchAnswer};
 
@@ -81,7 +81,7 @@ pub fn of_answer(a: Answer) -> Said
 
 /// What a search's answer says.
 pub fn of_search(a: SearchAnswer) -> Found
-    ensures { foundIn result ≡ searchSaid a }
+    ensures { found_in result ≡ search_said a }
 {
     match a {
         SearchAnswer::Found { m, takings } => Found {
@@ -106,7 +106,7 @@ pub fn of_search(a: SearchAnswer) -> Found
 
 /// What an iteration's answer says.
 pub fn of_iterate(a: IterateAnswer) -> Iterated
-    ensures { iteratedIn result ≡ iterateSaid a }
+    ensures { iterated_in result ≡ iterate_said a }
 {
     match a {
         IterateAnswer::Iterated { cost, new } => Iterated {

@@ -1,15 +1,15 @@
 // What a begin writes: unfilled lists, drawn contexts, no pair visited.
 ghost use Rattle.std.specs.Prelude.{◌≡◌, [], ◌∷◌, ℕ, ◌+◌, ◌*◌, ◌≤◌, ◌<◌, length};
 ghost use Rattle.rules.specs.Loops.{each};
-ghost use Rattle.rules.specs.Calls.{descentWords};
-ghost use Rattle.rules.specs.Descent.{drawsFrom, beginContext};
-ghost use Rattle.rules.specs.DescentPlaces.{memberWords, contextWords};
+ghost use Rattle.rules.specs.Calls.{descent_words};
+ghost use Rattle.rules.specs.Descent.{draws_from, begin_context};
+ghost use Rattle.rules.specs.DescentPlaces.{member_words, context_words};
 ghost use Rattle.begins.specs.Begins.{Begun};
 
 // Writes a list of `s` draws modulo `n`, from `at` on, to 65 words.
 fn draw_members(words: &mut [u32], draws: &[u32], n: usize, s: usize, at: usize)
     requires { (length words.old ≡ 65) × (s ≤ 64) × (1 ≤ n) × (n ≤ 1024) × (at + s ≤ length draws.now) }
-    ensures { words.new ≡ memberWords (drawsFrom draws.now n at s) }
+    ensures { words.new ≡ member_words (draws_from draws.now n at s) }
 {
     buffers::zero_words(words);
     words[0] = s as u32;
@@ -23,7 +23,7 @@ fn draw_members(words: &mut [u32], draws: &[u32], n: usize, s: usize, at: usize)
 // Writes the context of node `i` to 260 words: `s` new, no old, `s` reversed-new, no reversed-old.
 fn begin_context(words: &mut [u32], draws: &[u32], n: usize, s: usize, i: usize)
     requires { (length words.old ≡ 260) × (s ≤ 64) × (1 ≤ n) × (n ≤ 1024) × (i < n) × (2 * n * s ≤ length draws.now) }
-    ensures { words.new ≡ contextWords (beginContext draws.now n s i ∷ []) }
+    ensures { words.new ≡ context_words (begin_context draws.now n s i ∷ []) }
 {
     let at = 2 * s * i;
     draw_members(&mut words[0..65], draws, n, s, at);
@@ -35,7 +35,7 @@ fn begin_context(words: &mut [u32], draws: &[u32], n: usize, s: usize, i: usize)
 // Writes the contexts of all nodes, rising.
 fn begin_contexts(words: &mut [u32], draws: &[u32], n: usize, s: usize)
     requires { (length words.old ≡ 260 * n) × (s ≤ 64) × (1 ≤ n) × (n ≤ 1024) × (2 * n * s ≤ length draws.now) }
-    ensures { words.new ≡ contextWords (each (λ (i : ℕ). beginContext draws.now n s i ∷ []) n) }
+    ensures { words.new ≡ context_words (each (λ (i : ℕ). begin_context draws.now n s i ∷ []) n) }
 {
     let mut i: usize = 0;
     while i < n {
@@ -57,7 +57,7 @@ pub fn begin_state(
     floats: &mut [f32],
 )
     requires le_n { (1 ≤ n) × (n ≤ 1024) × (k ≤ 64) × (s ≤ 64) × (2 * n * s ≤ length draws.now) }
-    requires words_len { (length words.old ≡ descentWords n k) × (length floats.old ≡ n * k) }
+    requires words_len { (length words.old ≡ descent_words n k) × (length floats.old ≡ n * k) }
     ensures { Begun n k s draws.now words.new floats.new }
 {
     let lists = n * k;

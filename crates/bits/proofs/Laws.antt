@@ -14,7 +14,7 @@ use lib.ListN.{length, get_or, set, length-set}
 use lib.Pow.{pow-lt, shl_exact, shr_lt, shr-shr}
 use lib.Seq.{get_or-set_same, get_or-set_other, ext_get_or}
 use Rattle.rules.specs.DescentPlaces.{bit_at}
-use Rattle.bits.specs.Bits.{withBit, setBit, withoutBit, clearBit, Words}
+use Rattle.bits.specs.Bits.{with_bit, set_bit, without_bit, clear_bit, Words}
 
 -- the code's 1 << (i % 32)
 pub shifted_one : (i : ℕ) → 1 * 2 ^ (i % 32) % 2 ^ 32 ≡ 2 ^ (i % 32)
@@ -32,18 +32,18 @@ two_pos : 0 < 2
 two_pos = zero-lt-suc 1
 
 -- a bit behind the lowest is one of the word halved
-pub bit-half : (w k : ℕ) → bit_of w (suc k) ≡ bit_of (w / 2) k
-bit-half w k = ap (λ (x : ℕ). eqb (x % 2) 1) (ap (λ (j : ℕ). w / 2 ^ j) (omega arith) ∙ sym (shr-shr w 1 k))
+pub bit_half : (w k : ℕ) → bit_of w (suc k) ≡ bit_of (w / 2) k
+bit_half w k = ap (λ (x : ℕ). eqb (x % 2) 1) (ap (λ (j : ℕ). w / 2 ^ j) (omega arith) ∙ sym (shr-shr w 1 k))
 
-bit-power : (m k : ℕ) → bit_of (2 ^ m) k ≡ eqb m k
-bit-power zero zero = refl
-bit-power zero (suc k) = ap (λ (x : ℕ). eqb (x % 2) 1) (div-eq_of_lt (pow-lt {i = 0} {j = suc k} (omega arith))) ∙ sym (eqb-zero-suc k)
-bit-power (suc m) zero =
+bit_power : (m k : ℕ) → bit_of (2 ^ m) k ≡ eqb m k
+bit_power zero zero = refl
+bit_power zero (suc k) = ap (λ (x : ℕ). eqb (x % 2) 1) (div-eq_of_lt (pow-lt {i = 0} {j = suc k} (omega arith))) ∙ sym (eqb-zero-suc k)
+bit_power (suc m) zero =
     ap (λ (x : ℕ). eqb (x % 2) 1) (div-one (2 ^ suc m) ∙ sym (one-mul (2 ^ suc m))) ∙ ap (λ (x : ℕ). eqb x 1) (shifted_even 1 m) ∙ sym (eqb-suc-zero m)
-bit-power (suc m) (suc k) =
-    bit-half (2 ^ suc m) k
+bit_power (suc m) (suc k) =
+    bit_half (2 ^ suc m) k
     ∙ ap (λ (x : ℕ). bit_of x k) (ap (λ (x : ℕ). x / 2) (sym (one-mul (2 ^ suc m))) ∙ shifted_half 1 m ∙ one-mul (2 ^ m))
-    ∙ bit-power m k ∙ sym (eqb-suc-suc m k)
+    ∙ bit_power m k ∙ sym (eqb-suc-suc m k)
 
 -- what holds of 0 and of 1 holds of what is below 2
 digits : (P : ℕ → ℕ → Type 0) → P 0 0 → P 0 1 → P 1 0 → P 1 1 → (x y : ℕ) → x < 2 → y < 2 → P x y
@@ -56,33 +56,33 @@ digits P a b c d zero (suc (suc y)) h l = absurd (omega arith)
 digits P a b c d (suc zero) (suc (suc y)) h l = absurd (omega arith)
 
 -- a digit of either operation is the operation on the digits
-or-digit : (a b k : ℕ) → bit_or a b / 2 ^ k % 2 ≡ bit_or (a / 2 ^ k % 2) (b / 2 ^ k % 2)
-or-digit a b k = ap (λ (x : ℕ). x % 2) (or_shr a b k) ∙ or_mod (a / 2 ^ k) (b / 2 ^ k) 1
+or_digit : (a b k : ℕ) → bit_or a b / 2 ^ k % 2 ≡ bit_or (a / 2 ^ k % 2) (b / 2 ^ k % 2)
+or_digit a b k = ap (λ (x : ℕ). x % 2) (or_shr a b k) ∙ or_mod (a / 2 ^ k) (b / 2 ^ k) 1
 
-xor-digit : (a b k : ℕ) → bit_xor a b / 2 ^ k % 2 ≡ bit_xor (a / 2 ^ k % 2) (b / 2 ^ k % 2)
-xor-digit a b k = ap (λ (x : ℕ). x % 2) (xor_shr a b k) ∙ xor_mod (a / 2 ^ k) (b / 2 ^ k) 1
+xor_digit : (a b k : ℕ) → bit_xor a b / 2 ^ k % 2 ≡ bit_xor (a / 2 ^ k % 2) (b / 2 ^ k % 2)
+xor_digit a b k = ap (λ (x : ℕ). x % 2) (xor_shr a b k) ∙ xor_mod (a / 2 ^ k) (b / 2 ^ k) 1
 
-bit-with : (m w k : ℕ) → bit_of (withBit m w) k ≡ (eqb m k || bit_of w k)
-unfolding withBit
-bit-with m w k =
-    ap (λ (x : ℕ). eqb x 1) (or-digit w (2 ^ m) k)
+bit_with : (m w k : ℕ) → bit_of (with_bit m w) k ≡ (eqb m k || bit_of w k)
+unfolding with_bit
+bit_with m w k =
+    ap (λ (x : ℕ). eqb x 1) (or_digit w (2 ^ m) k)
     ∙ digits (λ x y. eqb (bit_or x y) 1 ≡ (eqb y 1 || eqb x 1)) refl refl refl refl (w / 2 ^ k % 2) (2 ^ m / 2 ^ k % 2) (mod-lt (w / 2 ^ k) two_pos) (mod-lt (2 ^ m / 2 ^ k) two_pos)
-    ∙ ap (λ (b : Bool). b || bit_of w k) (bit-power m k)
+    ∙ ap (λ (b : Bool). b || bit_of w k) (bit_power m k)
 
-bit-without : (m w k : ℕ) → bit_of (withoutBit m w) k ≡ (not (eqb m k) && bit_of w k)
-unfolding withBit withoutBit
-bit-without m w k =
-    ap (λ (x : ℕ). eqb x 1) (xor-digit (bit_or w (2 ^ m)) (2 ^ m) k ∙ ap (λ (x : ℕ). bit_xor x (2 ^ m / 2 ^ k % 2)) (or-digit w (2 ^ m) k))
+bit_without : (m w k : ℕ) → bit_of (without_bit m w) k ≡ (not (eqb m k) && bit_of w k)
+unfolding with_bit without_bit
+bit_without m w k =
+    ap (λ (x : ℕ). eqb x 1) (xor_digit (bit_or w (2 ^ m)) (2 ^ m) k ∙ ap (λ (x : ℕ). bit_xor x (2 ^ m / 2 ^ k % 2)) (or_digit w (2 ^ m) k))
     ∙ digits (λ x y. eqb (bit_xor (bit_or x y) y) 1 ≡ (not (eqb y 1) && eqb x 1)) refl refl refl refl (w / 2 ^ k % 2) (2 ^ m / 2 ^ k % 2) (mod-lt (w / 2 ^ k) two_pos) (mod-lt (2 ^ m / 2 ^ k) two_pos)
-    ∙ ap (λ (b : Bool). not b && bit_of w k) (bit-power m k)
+    ∙ ap (λ (b : Bool). not b && bit_of w k) (bit_power m k)
 
-with-lt : (m w : ℕ) → m < 32 → w < 2 ^ 32 → withBit m w < 2 ^ 32
-unfolding withBit
-with-lt m w h l = or_lt 32 w (2 ^ m) l (pow-lt h)
+with_lt : (m w : ℕ) → m < 32 → w < 2 ^ 32 → with_bit m w < 2 ^ 32
+unfolding with_bit
+with_lt m w h l = or_lt 32 w (2 ^ m) l (pow-lt h)
 
-without-lt : (m w : ℕ) → m < 32 → w < 2 ^ 32 → withoutBit m w < 2 ^ 32
-unfolding withoutBit
-without-lt m w h l = xor_lt 32 (withBit m w) (2 ^ m) (with-lt m w h l) (pow-lt h)
+without_lt : (m w : ℕ) → m < 32 → w < 2 ^ 32 → without_bit m w < 2 ^ 32
+unfolding without_bit
+without_lt m w h l = xor_lt 32 (with_bit m w) (2 ^ m) (with_lt m w h l) (pow-lt h)
 
 -- ---- a list of words
 
@@ -114,38 +114,38 @@ module _ (f : ℕ → ℕ → ℕ) (g : Bool → Bool → Bool) (idle : (b : Boo
           ap (λ (w : ℕ). bit_of w (j % 32)) (get_or-set_other us (p / 32) (j / 32) new 0 (eqb-false (j / 32) (p / 32) e))
           ∙ sym (ap (λ (b : Bool). g b (bit_of (get_or us (j / 32) 0) (j % 32))) (ne_eqb p j (λ (r : p ≡ j). eqb-false (j / 32) (p / 32) e (ap (λ (x : ℕ). x / 32) (sym r)))) ∙ idle _)
 
-pub bitAt-set : (p : ℕ) (us : List ℕ) (j : ℕ) → p / 32 < length us → bit_at (setBit p us) j ≡ (eqb p j || bit_at us j)
-unfolding setBit
-bitAt-set = changed withBit (λ a b. a || b) (λ b. refl) bit-with
+pub bit_at-set : (p : ℕ) (us : List ℕ) (j : ℕ) → p / 32 < length us → bit_at (set_bit p us) j ≡ (eqb p j || bit_at us j)
+unfolding set_bit
+bit_at-set = changed with_bit (λ a b. a || b) (λ b. refl) bit_with
 
-pub bitAt-clear : (p : ℕ) (us : List ℕ) (j : ℕ) → p / 32 < length us → bit_at (clearBit p us) j ≡ (not (eqb p j) && bit_at us j)
-unfolding clearBit
-bitAt-clear = changed withoutBit (λ a b. not a && b) (λ b. refl) bit-without
+pub bit_at-clear : (p : ℕ) (us : List ℕ) (j : ℕ) → p / 32 < length us → bit_at (clear_bit p us) j ≡ (not (eqb p j) && bit_at us j)
+unfolding clear_bit
+bit_at-clear = changed without_bit (λ a b. not a && b) (λ b. refl) bit_without
 
-pub length-setBit : (p : ℕ) (us : List ℕ) → length (setBit p us) ≡ length us
-unfolding setBit
-length-setBit p us = length-set us (p / 32) (withBit (p % 32) (get_or us (p / 32) 0))
+pub length-set_bit : (p : ℕ) (us : List ℕ) → length (set_bit p us) ≡ length us
+unfolding set_bit
+length-set_bit p us = length-set us (p / 32) (with_bit (p % 32) (get_or us (p / 32) 0))
 
-pub length-clearBit : (p : ℕ) (us : List ℕ) → length (clearBit p us) ≡ length us
-unfolding clearBit
-length-clearBit p us = length-set us (p / 32) (withoutBit (p % 32) (get_or us (p / 32) 0))
+pub length-clear_bit : (p : ℕ) (us : List ℕ) → length (clear_bit p us) ≡ length us
+unfolding clear_bit
+length-clear_bit p us = length-set us (p / 32) (without_bit (p % 32) (get_or us (p / 32) 0))
 
-words-changed : (us : List ℕ) (q w : ℕ) → q < length us → Words us → w < 2 ^ 32 → Words (set us q w)
-words-changed us q w h all l j = go (eqb j q) refl
+words_changed : (us : List ℕ) (q w : ℕ) → q < length us → Words us → w < 2 ^ 32 → Words (set us q w)
+words_changed us q w h all l j = go (eqb j q) refl
   where
     go : (b : Bool) → eqb j q ≡ b → get_or (set us q w) j 0 < 2 ^ 32
     go true e = rw (eqb-true j q e, get_or-set_same us q w 0 h) l
     go false e = rw (get_or-set_other us q j w 0 (eqb-false j q e)) (all j)
 
-pub words-setBit : (p : ℕ) (us : List ℕ) → p / 32 < length us → Words us → Words (setBit p us)
-unfolding setBit
-words-setBit p us h all =
-    words-changed us (p / 32) (withBit (p % 32) (get_or us (p / 32) 0)) h all (with-lt (p % 32) (get_or us (p / 32) 0) (mod-lt p (zero-lt-suc 31)) (all (p / 32)))
+pub words-set_bit : (p : ℕ) (us : List ℕ) → p / 32 < length us → Words us → Words (set_bit p us)
+unfolding set_bit
+words-set_bit p us h all =
+    words_changed us (p / 32) (with_bit (p % 32) (get_or us (p / 32) 0)) h all (with_lt (p % 32) (get_or us (p / 32) 0) (mod-lt p (zero-lt-suc 31)) (all (p / 32)))
 
-pub words-clearBit : (p : ℕ) (us : List ℕ) → p / 32 < length us → Words us → Words (clearBit p us)
-unfolding clearBit
-words-clearBit p us h all =
-    words-changed us (p / 32) (withoutBit (p % 32) (get_or us (p / 32) 0)) h all (without-lt (p % 32) (get_or us (p / 32) 0) (mod-lt p (zero-lt-suc 31)) (all (p / 32)))
+pub words-clear_bit : (p : ℕ) (us : List ℕ) → p / 32 < length us → Words us → Words (clear_bit p us)
+unfolding clear_bit
+words-clear_bit p us h all =
+    words_changed us (p / 32) (without_bit (p % 32) (get_or us (p / 32) 0)) h all (without_lt (p % 32) (get_or us (p / 32) 0) (mod-lt p (zero-lt-suc 31)) (all (p / 32)))
 
 -- ---- words are told by their bits
 
@@ -155,21 +155,21 @@ lowest v w e =
     digits (λ x y. eqb x 1 ≡ eqb y 1 → x ≡ y) (λ r. refl) (λ r. absurd (false≢true r)) (λ r. absurd (true≢false r)) (λ r. refl) (v % 2) (w % 2) (mod-lt v two_pos) (mod-lt w two_pos)
     (ap (λ (x : ℕ). eqb (x % 2) 1) (sym (div-one v)) ∙ e ∙ ap (λ (x : ℕ). eqb (x % 2) 1) (div-one w))
 
-word-told : (n v w : ℕ) → v < 2 ^ n → w < 2 ^ n → ((k : ℕ) → k < n → bit_of v k ≡ bit_of w k) → v ≡ w
-word-told zero v w h l same = lt-one h ∙ sym (lt-one l)
-word-told (suc n) v w h l same =
+word_told : (n v w : ℕ) → v < 2 ^ n → w < 2 ^ n → ((k : ℕ) → k < n → bit_of v k ≡ bit_of w k) → v ≡ w
+word_told zero v w h l same = lt-one h ∙ sym (lt-one l)
+word_told (suc n) v w h l same =
     sym (div-add-mod' v 2)
     ∙ ap₂ (λ (x y : ℕ). x * 2 + y)
-    (word-told n (v / 2) (w / 2) (shr_lt n 1 (rw (add-one n) h)) (shr_lt n 1 (rw (add-one n) l)) (λ k b. sym (bit-half v k) ∙ same (suc k) (omega arith) ∙ bit-half w k))
+    (word_told n (v / 2) (w / 2) (shr_lt n 1 (rw (add-one n) h)) (shr_lt n 1 (rw (add-one n) l)) (λ k b. sym (bit_half v k) ∙ same (suc k) (omega arith) ∙ bit_half w k))
     (lowest v w (same 0 (omega arith)))
     ∙ div-add-mod' w 2
 
-pub bitAt-place : (us : List ℕ) (q k : ℕ) → k < 32 → bit_at us (q * 32 + k) ≡ bit_of (get_or us q 0) k
+pub bit_at-place : (us : List ℕ) (q k : ℕ) → k < 32 → bit_at us (q * 32 + k) ≡ bit_of (get_or us q 0) k
 unfolding bit_at
-bitAt-place us q k h = ap₂ (λ (a b : ℕ). bit_of (get_or us a 0) b) (digits_div q h) (digits_mod q h)
+bit_at-place us q k h = ap₂ (λ (a b : ℕ). bit_of (get_or us a 0) b) (digits_div q h) (digits_mod q h)
 
-pub words-told : (us vs : List ℕ) → length us ≡ length vs → Words us → Words vs → ((p : ℕ) → p / 32 < length us → bit_at us p ≡ bit_at vs p) → us ≡ vs
-words-told us vs e hu hv same =
+pub words_told : (us vs : List ℕ) → length us ≡ length vs → Words us → Words vs → ((p : ℕ) → p / 32 < length us → bit_at us p ≡ bit_at vs p) → us ≡ vs
+words_told us vs e hu hv same =
     ext_get_or 0 us vs e
-    (λ q h. word-told 32 (get_or us q 0) (get_or vs q 0) (hu q) (hv q)
-    (λ k b. sym (bitAt-place us q k b) ∙ same (q * 32 + k) (rw (digits_div q {m = 32} {r = k} b) h) ∙ bitAt-place vs q k b))
+    (λ q h. word_told 32 (get_or us q 0) (get_or vs q 0) (hu q) (hv q)
+    (λ k b. sym (bit_at-place us q k b) ∙ same (q * 32 + k) (rw (digits_div q {m = 32} {r = k} b) h) ∙ bit_at-place vs q k b))

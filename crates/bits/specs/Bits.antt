@@ -3,18 +3,18 @@ use Rattle.std.specs.Prelude.{List, ℕ, ◌/◌, ◌%◌, ◌^◌, ◌<◌, get
 use Rattle.std.specs.Int.Bits.{bit_or, bit_xor}
 
 -- the word with its bit k set
-unfoldable pub withBit : ℕ → ℕ → ℕ
-withBit k w = bit_or w (2 ^ k)
+unfoldable pub with_bit : ℕ → ℕ → ℕ
+with_bit k w = bit_or w (2 ^ k)
 
-unfoldable pub setBit : ℕ → List ℕ → List ℕ
-setBit p us = set us (p / 32) (withBit (p % 32) (get_or us (p / 32) 0))
+unfoldable pub set_bit : ℕ → List ℕ → List ℕ
+set_bit p us = set us (p / 32) (with_bit (p % 32) (get_or us (p / 32) 0))
 
 -- the word with its bit k cleared: set, and then turned over
-unfoldable pub withoutBit : ℕ → ℕ → ℕ
-withoutBit k w = bit_xor (withBit k w) (2 ^ k)
+unfoldable pub without_bit : ℕ → ℕ → ℕ
+without_bit k w = bit_xor (with_bit k w) (2 ^ k)
 
-unfoldable pub clearBit : ℕ → List ℕ → List ℕ
-clearBit p us = set us (p / 32) (withoutBit (p % 32) (get_or us (p / 32) 0))
+unfoldable pub clear_bit : ℕ → List ℕ → List ℕ
+clear_bit p us = set us (p / 32) (without_bit (p % 32) (get_or us (p / 32) 0))
 
 -- each word is one of u32; behind the last, 0 is read
 abbrev pub Words : List ℕ → Type 0

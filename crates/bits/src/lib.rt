@@ -1,7 +1,7 @@
 // A bit of a lent slice of words: read, set and cleared.
 ghost use Rattle.std.specs.Prelude.{◌≡◌, ◌/◌, ◌<◌, length};
 ghost use Rattle.rules.specs.DescentPlaces.{bit_at};
-ghost use Rattle.bits.specs.Bits.{setBit, clearBit};
+ghost use Rattle.bits.specs.Bits.{set_bit, clear_bit};
 
 /// Whether bit `i` is set: of word i / 32, bit i % 32 from the lowest.
 pub fn bit_at(words: &[u32], i: usize) -> bool
@@ -14,7 +14,7 @@ pub fn bit_at(words: &[u32], i: usize) -> bool
 /// Sets bit `i`.
 pub fn set_bit(words: &mut [u32], i: usize)
     requires { i / 32 < length words.old }
-    ensures { words.new ≡ setBit i words.old }
+    ensures { words.new ≡ set_bit i words.old }
 {
     let at = i / 32;
     words[at] = words[at] | 1 << (i % 32);
@@ -23,7 +23,7 @@ pub fn set_bit(words: &mut [u32], i: usize)
 /// Clears bit `i`.
 pub fn clear_bit(words: &mut [u32], i: usize)
     requires { i / 32 < length words.old }
-    ensures { words.new ≡ clearBit i words.old }
+    ensures { words.new ≡ clear_bit i words.old }
 {
     let at = i / 32;
     let bit: u32 = 1 << (i % 32);

@@ -13,8 +13,8 @@ module _ {A : Type 0} where
   length-area a w xs h = length-take-le w (drop a xs) (simp length-drop (omega arith))
 
   -- an area, cut out the other way round
-  area-cut : (a w : ℕ) (xs : List A) → a ≤ length xs → drop a (take (a + w) xs) ≡ area a w xs
-  area-cut a w xs h = ap (drop a) (take-add a w xs) ∙ drop_at (take a xs) (area a w xs) a (length-take-le a xs h)
+  area_cut : (a w : ℕ) (xs : List A) → a ≤ length xs → drop a (take (a + w) xs) ≡ area a w xs
+  area_cut a w xs h = ap (drop a) (take-add a w xs) ∙ drop_at (take a xs) (area a w xs) a (length-take-le a xs h)
 
   -- the part is lent from a on, w places, and comes back as ys
   module _ (a w : ℕ) (xs ys : List A) (fits : a + w ≤ length xs) (long : length ys ≡ w) where
@@ -35,11 +35,11 @@ module _ {A : Type 0} where
     pub put_low : (i v : ℕ) → i + v ≤ a → area i v (put_mid a w xs ys) ≡ area i v xs
     put_low i v h =
         let e = put-length in
-        sym (area-cut i v (put_mid a w xs ys) (omega arith)) ∙ ap (drop i) (put_front (i + v) h) ∙ area-cut i v xs (omega arith)
+        sym (area_cut i v (put_mid a w xs ys) (omega arith)) ∙ ap (drop i) (put_front (i + v) h) ∙ area_cut i v xs (omega arith)
 
     -- what lies behind it
-    pub put-high : (i v : ℕ) → a + w ≤ i → area i v (put_mid a w xs ys) ≡ area i v xs
-    put-high i v h =
+    pub put_high : (i v : ℕ) → a + w ≤ i → area i v (put_mid a w xs ys) ≡ area i v xs
+    put_high i v h =
         let e = length-take-le a xs (omega arith) in
         let far : i ≡ length (take a xs ++ ys) + (i - (a + w)) = rw (length-append (take a xs) ys, e, long) (omega arith) in
         let near : w + (i - (a + w)) ≡ i - a = omega arith in
@@ -62,7 +62,7 @@ module _ {A : Type 0} where
     pub set-low : (a w : ℕ) → j < a → area a w (set xs j x) ≡ area a w xs
     set-low a w h = ap (take w) (drop-set-lt a xs j x h)
 
-    pub set-high : (a w : ℕ) → a + w ≤ j → area a w (set xs j x) ≡ area a w xs
-    set-high a w h =
+    pub set_high : (a w : ℕ) → a + w ≤ j → area a w (set xs j x) ≡ area a w xs
+    set_high a w h =
         let e : a + (j - a) ≡ j = omega arith in
         ap (λ (k : ℕ). area a w (set xs k x)) (sym e) ∙ ap (take w) (drop-set-add a xs (j - a) x) ∙ take-set-le w (drop a xs) (j - a) x (omega arith)

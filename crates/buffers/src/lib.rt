@@ -4,7 +4,7 @@ ghost use Rattle.std.specs.Float.{nan, binary32};
 ghost use Rattle.std.specs.Float.Ieee.{is_nan, to_bits};
 ghost use Rattle.rules.specs.Loops.{over};
 ghost use Rattle.rules.specs.Distance.{zero32};
-ghost use Rattle.rules.specs.Search.{mark, isSeen};
+ghost use Rattle.rules.specs.Search.{mark, is_seen};
 
 use rules::NodeId;
 
@@ -79,7 +79,7 @@ pub fn mark_seen(flags: &mut [u32], v: NodeId)
 /// Whether node `v` is marked as seen (hora's `FixedBitSet::contains`).
 pub fn is_seen(flags: &[u32], v: NodeId) -> bool
     requires { v.0 < length flags.now }
-    ensures { result ≡ isSeen v.0 flags.now }
+    ensures { result ≡ is_seen v.0 flags.now }
 {
     let at = v.0 as usize;
     flags[at] == 1

@@ -1,10 +1,10 @@
 // The entry `build`: the refusal table, steps 1 to 6, and scratch zeroed.
 ghost use Rattle.std.specs.Prelude.{◌≡◌, [], ◌∷◌, ◌*◌, ◌≤◌};
 ghost use Rattle.rules.specs.Loops.{any_of};
-ghost use Rattle.rules.specs.Numbers.{outside, badThreshold};
-ghost use Rattle.rules.specs.Refusals.{decide, decisionOf, holds, notExactly, lessThan};
-ghost use Rattle.rules.specs.Calls.{buildScratch};
-ghost use Rattle.rules.specs.BuildCall.{buildTable};
+ghost use Rattle.rules.specs.Numbers.{outside, bad_threshold};
+ghost use Rattle.rules.specs.Refusals.{decide, decision_of, holds, not_exactly, less_than};
+ghost use Rattle.rules.specs.Calls.{build_scratch};
+ghost use Rattle.rules.specs.BuildCall.{build_table};
 ghost use Rattle.build.specs.Build.{lent, Ready, Sliced, Worked, Built};
 
 use params::SsgParams;
@@ -25,7 +25,7 @@ fn wrong_sizes(init_k: usize, index_size: usize, hops: usize) -> bool
 
 /// Row 5: whether the threshold is a NaN or outside -1 to 1.
 fn wrong_threshold(threshold: f32) -> bool
-    ensures { result ≡ badThreshold threshold }
+    ensures { result ≡ bad_threshold threshold }
 {
     if -1.0 <= threshold {
         if threshold <= 1.0 {
@@ -45,7 +45,7 @@ fn wrong_buffers(
     floats: usize,
 ) -> bool
     requires { (n ≤ 4096) × (init_k ≤ 64) × (index_size ≤ 64) }
-    ensures { result ≡ any_of holds (notExactly (n * index_size) graph ∷ lessThan (buildScratch n init_k index_size) words ∷ lessThan (buildScratch n init_k index_size) floats ∷ []) }
+    ensures { result ≡ any_of holds (not_exactly (n * index_size) graph ∷ less_than (build_scratch n init_k index_size) words ∷ less_than (build_scratch n init_k index_size) floats ∷ []) }
 {
     if graph != n * index_size {
         return true;
@@ -67,7 +67,7 @@ fn judge(
     words: &[u32],
     floats: &[f32],
 ) -> Answer
-    ensures { decisionOf result ≡ decide (buildTable (lent params dimension n lanes.now graph.now words.now floats.now)) }
+    ensures { decision_of result ≡ decide (build_table (lent params dimension n lanes.now graph.now words.now floats.now)) }
 {
     let g = table::game(dimension, 4096, n, lanes.len());
     let Answer::Done = g else {

@@ -1,6 +1,6 @@
 // Square C of the settled squares: the graphs of width 2 and 3, every place of each row.
 ghost use Rattle.std.specs.Prelude.{◌≡◌};
-ghost use Rattle.case_c.specs.Square.{lanesOfSquares, paramsOfSquares};
+ghost use Rattle.case_c.specs.Square.{lanes_of_squares, params_of_squares};
 
 use libc::STDOUT_FILENO;
 use params::SsgParams;
@@ -8,13 +8,13 @@ use rules::Answer;
 
 // What is taught is said by contracts: four counters are too few for the graph to tell every number of it.
 fn lanes() -> [f32; 4]
-    ensures { result ≡ lanesOfSquares }
+    ensures { result ≡ lanes_of_squares }
 {
     [0.0, 1.0, 3.0, 7.0]
 }
 
 fn params_of(index_size: usize) -> SsgParams
-    ensures { result ≡ paramsOfSquares index_size }
+    ensures { result ≡ params_of_squares index_size }
 {
     SsgParams::default()
         .init_k(2)

@@ -1,31 +1,31 @@
 // Case E of the settled squares: roots 0 and 3, k 2, query 7 on C's graph; prints each rank, its node and the bits of its distance.
 ghost use Rattle.std.specs.Prelude.{◌≡◌};
-ghost use Rattle.case_e.specs.Square.{lanesOfSquares, graphOfC, rootsOfE, queryOfE};
+ghost use Rattle.case_e.specs.Square.{lanes_of_squares, graph_of_c, roots_of_e, query_of_e};
 
 use libc::STDOUT_FILENO;
 use rules::SearchAnswer;
 
 // What is searched is said by contracts: the two nodes that are found do not tell every number of it.
 fn lanes() -> [f32; 4]
-    ensures { result ≡ lanesOfSquares }
+    ensures { result ≡ lanes_of_squares }
 {
     [0.0, 1.0, 3.0, 7.0]
 }
 
 fn graph() -> [u32; 8]
-    ensures { result ≡ graphOfC }
+    ensures { result ≡ graph_of_c }
 {
     [1, 2, 0, 2, 1, 2, 2, 4]
 }
 
 fn roots() -> [u32; 2]
-    ensures { result ≡ rootsOfE }
+    ensures { result ≡ roots_of_e }
 {
     [0, 3]
 }
 
 fn query() -> [f32; 1]
-    ensures { result ≡ queryOfE }
+    ensures { result ≡ query_of_e }
 {
     [7.0]
 }

@@ -27,18 +27,18 @@ skipped mode [] at = at
 skipped mode (b ∷ bs) at = cond (after mode b == 2) at (skipped (after mode b) bs (suc at))
 
 -- The digit that a byte is, and 10 where it is none
-unfoldable pub digitOf : ℕ → ℕ
-digitOf b = cond (within 48 57 b) (b - 48) 10
+unfoldable pub digit_of : ℕ → ℕ
+digit_of b = cond (within 48 57 b) (b - 48) 10
 
 abbrev pub limit : ℕ
 limit = 4294967296
 
 -- The value of the digits that stand first, and the place behind them. A value that has reached the limit is read no further.
-unfoldable pub digitsOf : ℕ → List ℕ → ℕ → Digits
-digitsOf value [] at = record { value = value; at = at }
-digitsOf value (b ∷ bs) at =
-    cond (digitOf b == 10) (record { value = value; at = at })
-    (cond (nat_le limit value) (record { value = value; at = at }) (digitsOf (value * 10 + digitOf b) bs (suc at)))
+unfoldable pub digits_of : ℕ → List ℕ → ℕ → Digits
+digits_of value [] at = record { value = value; at = at }
+digits_of value (b ∷ bs) at =
+    cond (digit_of b == 10) (record { value = value; at = at })
+    (cond (nat_le limit value) (record { value = value; at = at }) (digits_of (value * 10 + digit_of b) bs (suc at)))
 
 -- A number counted, and added to the sum
 unfoldable pub counted : Cursor → Digits → Cursor
@@ -49,18 +49,18 @@ unfoldable pub ended : Cursor → ℕ → Cursor
 ended c at = record { at = at; count = c.count; sum = c.sum; fault = c.fault }
 
 -- "Every number is an unsigned decimal below 4,294,967,296."
-unfoldable pub tokenOf : ℕ → Cursor → ℕ → Digits → Token
-tokenOf long c start d =
+unfoldable pub token_of : ℕ → Cursor → ℕ → Digits → Token
+token_of long c start d =
     cond (nat_le long start) (End (ended c start))
     (cond (d.at == start) (Strange start)
     (cond (nat_le limit d.value) (TooLarge start) (Number d.value (counted c d))))
 
-unfoldable pub tokenFrom : List ℕ → Cursor → ℕ → Token
-tokenFrom text c start = tokenOf (length text) c start (digitsOf 0 (drop start text) start)
+unfoldable pub token_from : List ℕ → Cursor → ℕ → Token
+token_from text c start = token_of (length text) c start (digits_of 0 (drop start text) start)
 
 -- What stands next in the text
-unfoldable pub tokenAt : List ℕ → Cursor → Token
-tokenAt text c = tokenFrom text c (skipped 0 (drop c.at text) c.at)
+unfoldable pub token_at : List ℕ → Cursor → Token
+token_at text c = token_from text c (skipped 0 (drop c.at text) c.at)
 
 -- A whole text: its numbers, and the token behind them (`End` where it is a list, with their count and sum)
 pub record Numbers : Type 0 where
@@ -76,16 +76,16 @@ continued (End c) rest = record { numbers = []; end = End c }
 continued (TooLarge at) rest = record { numbers = []; end = TooLarge at }
 continued (Strange at) rest = record { numbers = []; end = Strange at }
 
-unfoldable pub numbersFrom : ℕ → List ℕ → Token → Numbers
-numbersFrom zero text t = record { numbers = []; end = t }
-numbersFrom (suc turns) text t = continued t (λ (c : Cursor). numbersFrom turns text (tokenAt text c))
+unfoldable pub numbers_from : ℕ → List ℕ → Token → Numbers
+numbers_from zero text t = record { numbers = []; end = t }
+numbers_from (suc turns) text t = continued t (λ (c : Cursor). numbers_from turns text (token_at text c))
 
 abbrev pub first : Cursor
 first = record { at = 0; count = 0; sum = 0; fault = 0 }
 
 -- Each number takes a byte at least, and the end a turn, so the turns suffice.
-unfoldable pub numbersIn : List ℕ → Numbers
-numbersIn text = numbersFrom (suc (length text)) text (tokenAt text first)
+unfoldable pub numbers_in : List ℕ → Numbers
+numbers_in text = numbers_from (suc (length text)) text (token_at text first)
 
 -- What went wrong first is kept: 1 the end, 2 a number that is too large, 3 a byte of no list, 4 a number that the format does not allow
 unfoldable pub faulted : Cursor → ℕ → Cursor
@@ -100,7 +100,7 @@ word_of c (Strange _) = record { value = 0; cursor = faulted c 3 }
 
 -- The next number, and 0 where there is none or something went wrong before
 unfoldable pub word_at : List ℕ → Cursor → Word
-word_at text c = cond (c.fault == 0) (word_of c (tokenAt text c)) (record { value = 0; cursor = c })
+word_at text c = cond (c.fault == 0) (word_of c (token_at text c)) (record { value = 0; cursor = c })
 
 unfoldable pub size_of : ℕ → Word → Size
 size_of most w =
@@ -111,13 +111,13 @@ unfoldable pub size_at : ℕ → List ℕ → Cursor → Size
 size_at most text c = size_of most (word_at text c)
 
 -- The product of two lengths, and 0 where one of them is over 65,536
-unfoldable pub areaOf : ℕ → ℕ → ℕ
-areaOf a b = cond (nat_le a 65536 && nat_le b 65536) (a * b) 0
+unfoldable pub area_of : ℕ → ℕ → ℕ
+area_of a b = cond (nat_le a 65536 && nat_le b 65536) (a * b) 0
 
 -- The next n numbers, and the place behind them
-unfoldable pub wordsAt : ℕ → List ℕ → Cursor → List ℕ
-wordsAt zero text c = []
-wordsAt (suc n) text c = let w = word_at text c in w.value ∷ wordsAt n text w.cursor
+unfoldable pub words_at : ℕ → List ℕ → Cursor → List ℕ
+words_at zero text c = []
+words_at (suc n) text c = let w = word_at text c in w.value ∷ words_at n text w.cursor
 
 unfoldable pub behind : ℕ → List ℕ → Cursor → Cursor
 behind zero text c = c
@@ -128,6 +128,6 @@ unfoldable pub float_of : ℕ → Float
 float_of bits = from_bits binary32 (cond (nat_lt 0x7F800000 (bits % 0x80000000)) 0 bits)
 
 -- The next n numbers as the bits of floats
-unfoldable pub floatsAt : ℕ → List ℕ → Cursor → List Float
-floatsAt zero text c = []
-floatsAt (suc n) text c = let w = word_at text c in float_of w.value ∷ floatsAt n text w.cursor
+unfoldable pub floats_at : ℕ → List ℕ → Cursor → List Float
+floats_at zero text c = []
+floats_at (suc n) text c = let w = word_at text c in float_of w.value ∷ floats_at n text w.cursor

@@ -1,6 +1,6 @@
 // The reader of the oracle's lists: text as a sequence of numbers, by the format of oracle/README.md.
 ghost use Rattle.std.specs.Prelude.{◌≡◌, ◌≤◌, min, length, drop};
-ghost use Rattle.cases.specs.Text.{within, separates, after, skipped, digitOf, digitsOf, tokenAt, faulted, word_at, size_at, areaOf, wordsAt, float_of, floatsAt, behind, first};
+ghost use Rattle.cases.specs.Text.{within, separates, after, skipped, digit_of, digits_of, token_at, faulted, word_at, size_at, area_of, words_at, float_of, floats_at, behind, first};
 
 /// A place in a list, the numbers read up to it with their sum modulo 2^32, and what went wrong
 /// first (`FINE` where nothing did).
@@ -112,7 +112,7 @@ fn skip(text: &[u8], start: usize) -> usize
 
 // The digit that a byte is, and 10 where it is none.
 fn digit_of(b: u8) -> u64
-    ensures value { result ≡ digitOf b }
+    ensures value { result ≡ digit_of b }
     ensures upper_bound { result ≤ 10 }
 {
     if within(b'0', b'9', b) {
@@ -123,7 +123,7 @@ fn digit_of(b: u8) -> u64
 
 // The value of the digits from `start` on; one that has reached 2^32 is read no further.
 fn read_digits(text: &[u8], start: usize) -> Digits
-    ensures { result ≡ digitsOf 0 (drop start text.now) start }
+    ensures { result ≡ digits_of 0 (drop start text.now) start }
 {
     let mut value: u64 = 0;
     let mut at = start;
@@ -152,7 +152,7 @@ fn read_digits(text: &[u8], start: usize) -> Digits
 
 /// What stands next in the text of a list. A number read is counted, and added to the sum.
 pub fn next_number(text: &[u8], c: Cursor) -> Token
-    ensures { result ≡ tokenAt text.now c }
+    ensures { result ≡ token_at text.now c }
 {
     let from = c.at;
     let start = skip(text, from);
@@ -289,7 +289,7 @@ pub fn read_size(text: &[u8], c: Cursor, most: usize) -> Size
 
 /// The product of two lengths, and 0 where one of them is over 65,536.
 pub fn area(a: usize, b: usize) -> usize
-    ensures value { result ≡ areaOf a b }
+    ensures value { result ≡ area_of a b }
     ensures upper_bound { result ≤ 4294967296 }
 {
     if a > 65536 {
@@ -327,7 +327,7 @@ pub fn pass(text: &[u8], c: Cursor, n: usize) -> Cursor
 
 /// Fills the slice with the next numbers.
 pub fn read_words(text: &[u8], c: Cursor, out: &mut [u32]) -> Cursor
-    ensures out_after { out.new ≡ wordsAt (length out.old) text.now c }
+    ensures out_after { out.new ≡ words_at (length out.old) text.now c }
     ensures value { result ≡ behind (length out.old) text.now c }
 {
     let mut i: usize = 0;
@@ -353,7 +353,7 @@ pub fn float(bits: u32) -> f32
 
 /// Fills the slice with the next numbers, as the bits of floats.
 pub fn read_floats(text: &[u8], c: Cursor, out: &mut [f32]) -> Cursor
-    ensures out_after { out.new ≡ floatsAt (length out.old) text.now c }
+    ensures out_after { out.new ≡ floats_at (length out.old) text.now c }
     ensures value { result ≡ behind (length out.old) text.now c }
 {
     let mut i: usize = 0;

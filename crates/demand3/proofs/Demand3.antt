@@ -4,7 +4,7 @@ use mathlib.Core.List.{List}
 use Prim.Native.Nat.{ℕ}
 use Rattle.rules.specs.declared.Answer.TheVariants as answer
 use Rattle.rules.specs.declared.Refusal.TheVariants as refusal
-use Rattle.rules.specs.Refusals.{code_of, noRefusal, said_of}
+use Rattle.rules.specs.Refusals.{code_of, no_refusal, said_of}
 use Rattle.rules.specs.RelayCall.{OpenLent, CloseOutcome}
 use Rattle.orders.specs.Demand3.{Asked, Finishes, Room, closed, Finished, Demand3}
 use Rattle.orders.proofs.Demand3.{demand3}
@@ -16,7 +16,7 @@ handed : (l : OpenLent) (ms : List Move) (room : Room l) (r : Relayed l ms room)
 handed l ms room r f = subst (λ (o : CloseOutcome). HandedBack l o.nodes o.distances o.reports) (sym (closed_is l ms room r)) written
   where
     written : HandedBack l (closed l (order ms) room).nodes (closed l (order ms) room).distances (closed l (order ms) room).reports
-    written = record { lists = f.lists; exactly = f.exactly; reported-first = f.reported-first; reported-second = f.reported-second }
+    written = record { lists = f.lists; exactly = f.exactly; reported_first = f.reported_first; reported_second = f.reported_second }
 
 module _ (l : OpenLent) (D : Demand3 l) where
   closing-said : (ms : List Move) (room : Room l) (r : Relayed l ms room) → said_of r.closing ≡ (closed l (order ms) room).said
@@ -28,18 +28,18 @@ module _ (l : OpenLent) (D : Demand3 l) where
       record {
         opens = λ (ms : List Move) (room : Room l) (r : Relayed l ms room). is-done r.opening (opening-said l ms room r ∙ D.opens);
         moves = λ before m behind room r inside few. is-done m.answer (said_at l before m behind room r ∙ D.succeeds (order before) m.job inside few);
-        is-over = λ before m behind room r inside many. is-refused m.answer (refusal.Step m.job) (said_at l before m behind room r ∙ D.is-over (order before) m.job inside many);
+        is_over = λ before m behind room r inside many. is-refused m.answer (refusal.Step m.job) (said_at l before m behind room r ∙ D.is_over (order before) m.job inside many);
         closes = λ ms room r fin. is-done r.closing (closing-said ms room r ∙ (D.finished (order ms) fin room).answers);
-        no-sooner = λ ms room r done. D.finishes (order ms) room (sym (closing-said ms room r) ∙ ap said_of done);
-        handed-back = λ ms room r fin. handed l ms room r (D.finished (order ms) fin room);
+        no_sooner = λ ms room r done. D.finishes (order ms) room (sym (closing-said ms room r) ∙ ap said_of done);
+        handed_back = λ ms room r fin. handed l ms room r (D.finished (order ms) fin room);
         same_nodes = λ ms others room other r s f g.
             ap (λ (o : CloseOutcome). o.nodes) (closed_is l ms room r) ∙ D.same_nodes (order ms) (order others) f g room other
             ∙ sym (ap (λ (o : CloseOutcome). o.nodes) (closed_is l others other s));
-        same-distances = λ ms others room other r s f g.
-            ap (λ (o : CloseOutcome). o.distances) (closed_is l ms room r) ∙ D.same-distances (order ms) (order others) f g room other
+        same_distances = λ ms others room other r s f g.
+            ap (λ (o : CloseOutcome). o.distances) (closed_is l ms room r) ∙ D.same_distances (order ms) (order others) f g room other
             ∙ sym (ap (λ (o : CloseOutcome). o.distances) (closed_is l others other s));
       }
 
 -- the request's demand 3, of the calls
-pub demand3-calls : (l : OpenLent) → Asked l → Demand3Calls l
-demand3-calls l A = of_calls l (demand3 l A)
+pub demand3_calls : (l : OpenLent) → Asked l → Demand3Calls l
+demand3_calls l A = of_calls l (demand3 l A)

@@ -6,8 +6,8 @@ use Rattle.rules.specs.declared.Answer.{Answer}
 use Rattle.rules.specs.declared.Answer.TheVariants as answer
 use Rattle.rules.specs.declared.Refusal.TheVariants as refusal
 use Rattle.rules.specs.Lists.{neighbor, least}
-use Rattle.rules.specs.Descent.{listAt}
-use Rattle.rules.specs.Places.{listsIn}
+use Rattle.rules.specs.Descent.{list_at}
+use Rattle.rules.specs.Places.{lists_in}
 use Rattle.rules.specs.RelayCall.{OpenLent}
 use Rattle.orders.specs.Runs.{count}
 use Rattle.orders.specs.Least.{IsLeast}
@@ -43,30 +43,30 @@ order (m ∷ ms) = m.job ∷ order ms
 pub record Relayed (l : OpenLent) (ms : List Move) (room : Room l) : Type 0 where
   pub opening : Answer
   pub opened : State
-  pub scratch-u : List ℕ
-  pub scratch-f : List Float
-  pub open-meets : Opened l opening opened.words opened.floats scratch-u scratch-f
-  pub moves-meet : Made l.n l.k opened ms
+  pub scratch_u : List ℕ
+  pub scratch_f : List Float
+  pub open_meets : Opened l opening opened.words opened.floats scratch_u scratch_f
+  pub moves_meet : Made l.n l.k opened ms
   pub closing : Answer
   pub nodes : List ℕ
   pub distances : List Float
   pub reports : List ℕ
-  pub close-meets :
+  pub close_meets :
       Closed
       (close.lent l.n l.k (last opened ms).words (last opened ms).floats room.nodes room.distances room.reports)
       closing nodes distances reports
 
 -- w's list as it was handed back
 abbrev pub list_of : (l : OpenLent) → List ℕ → List Float → ℕ → List Neighbor
-list_of l nodes distances w = listAt (listsIn l.n l.k nodes distances) w
+list_of l nodes distances w = list_at (lists_in l.n l.k nodes distances) w
 
 -- "When all are finished, every list holds exactly the least k, by distance and then number, of what it held and what was offered to it, repeats counted."
 pub record HandedBack (l : OpenLent) (nodes : List ℕ) (distances : List Float) (reports : List ℕ) : Type 0 where
   pub lists : (w : ℕ) → w < l.n → list_of l nodes distances w ≡ least l.k (held l w ++ offered l w)
   pub exactly : (w : ℕ) → w < l.n → IsLeast l.k (held l w ++ offered l w) (list_of l nodes distances w)
   -- "Which offers were taken up may depend on the order, and is reported": one that ends in its list is
-  pub reported-first : (i p : ℕ) → i < pairs l → eqb (u l i) (v l i) ≡ false → StandsIn (list_of l nodes distances (u l i)) p (neighbor (v l i) (apart l i)) → get_or reports (2 * i) 0 ≡ 1
-  pub reported-second : (i p : ℕ) → i < pairs l → eqb (u l i) (v l i) ≡ false → StandsIn (list_of l nodes distances (v l i)) p (neighbor (u l i) (apart l i)) → get_or reports (2 * i + 1) 0 ≡ 1
+  pub reported_first : (i p : ℕ) → i < pairs l → eqb (u l i) (v l i) ≡ false → StandsIn (list_of l nodes distances (u l i)) p (neighbor (v l i) (apart l i)) → get_or reports (2 * i) 0 ≡ 1
+  pub reported_second : (i p : ℕ) → i < pairs l → eqb (u l i) (v l i) ≡ false → StandsIn (list_of l nodes distances (v l i)) p (neighbor (u l i) (apart l i)) → get_or reports (2 * i + 1) 0 ≡ 1
 
 pub record Demand3Calls (l : OpenLent) : Type 0 where
   -- "Open .."
@@ -75,12 +75,12 @@ pub record Demand3Calls (l : OpenLent) : Type 0 where
   -- eight times, and refused from then on
   pub moves : (before : List Move) (m : Move) (behind : List Move) (room : Room l) → Relayed l (before ++ (m ∷ behind)) room → m.job < pairs l → count m.job (order before) < 8
       → m.answer ≡ answer.Done
-  pub is-over : (before : List Move) (m : Move) (behind : List Move) (room : Room l) → Relayed l (before ++ (m ∷ behind)) room → m.job < pairs l → 8 ≤ count m.job (order before)
+  pub is_over : (before : List Move) (m : Move) (behind : List Move) (room : Room l) → Relayed l (before ++ (m ∷ behind)) room → m.job < pairs l → 8 ≤ count m.job (order before)
       → m.answer ≡ answer.Refused (refusal.Step m.job)
   -- "When all are finished", and no sooner, close answers
   pub closes : (ms : List Move) (room : Room l) (r : Relayed l ms room) → Finishes l (order ms) → r.closing ≡ answer.Done
-  pub no-sooner : (ms : List Move) (room : Room l) (r : Relayed l ms room) → r.closing ≡ answer.Done → Finishes l (order ms)
-  pub handed-back : (ms : List Move) (room : Room l) (r : Relayed l ms room) → Finishes l (order ms) → HandedBack l r.nodes r.distances r.reports
+  pub no_sooner : (ms : List Move) (room : Room l) (r : Relayed l ms room) → r.closing ≡ answer.Done → Finishes l (order ms)
+  pub handed_back : (ms : List Move) (room : Room l) (r : Relayed l ms room) → Finishes l (order ms) → HandedBack l r.nodes r.distances r.reports
   -- "So no order of the heads changes a list."
   pub same_nodes : (ms others : List Move) (room other : Room l) (r : Relayed l ms room) (s : Relayed l others other) → Finishes l (order ms) → Finishes l (order others) → r.nodes ≡ s.nodes
-  pub same-distances : (ms others : List Move) (room other : Room l) (r : Relayed l ms room) (s : Relayed l others other) → Finishes l (order ms) → Finishes l (order others) → r.distances ≡ s.distances
+  pub same_distances : (ms others : List Move) (room other : Room l) (r : Relayed l ms room) (s : Relayed l others other) → Finishes l (order ms) → Finishes l (order others) → r.distances ≡ s.distances

@@ -2,9 +2,9 @@
 ghost use Rattle.std.specs.Prelude.{◌≡◌, [], ◌∷◌, ◌*◌, ◌≤◌, length};
 ghost use Rattle.rules.specs.Loops.{any_of};
 ghost use Rattle.rules.specs.Numbers.{outside};
-ghost use Rattle.rules.specs.Distance.{nodesApart};
-ghost use Rattle.rules.specs.Refusals.{decide, decisionOf, holds};
-ghost use Rattle.rules.specs.Calls.{scratch, descentBuffers, descentRows};
+ghost use Rattle.rules.specs.Distance.{nodes_apart};
+ghost use Rattle.rules.specs.Refusals.{decide, decision_of, holds};
+ghost use Rattle.rules.specs.Calls.{scratch, descent_buffers, descent_rows};
 ghost use Rattle.descent.specs.Descent.{lent, BegunAll};
 
 use rules::{Answer, Refusal};
@@ -29,7 +29,7 @@ fn wrong_buffers(
     floats: usize,
 ) -> bool
     requires { (n ≤ 1024) × (k ≤ 64) }
-    ensures { result ≡ any_of holds (descentBuffers n k state_u state_f (scratch words floats)) }
+    ensures { result ≡ any_of holds (descent_buffers n k state_u state_f (scratch words floats)) }
 {
     let lists = n * k;
     if state_u != lists + 260 * n + (n * n + 31) / 32 {
@@ -57,7 +57,7 @@ pub fn judge(
     words: usize,
     floats: usize,
 ) -> Answer
-    ensures { decisionOf result ≡ decide (descentRows dimension n (length lanes.now) k s state_u state_f (scratch words floats) (nodesApart lanes.now dimension) []) }
+    ensures { decision_of result ≡ decide (descent_rows dimension n (length lanes.now) k s state_u state_f (scratch words floats) (nodes_apart lanes.now dimension) []) }
 {
     let g = table::game(dimension, 1024, n, lanes.len());
     let Answer::Done = g else {

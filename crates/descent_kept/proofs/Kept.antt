@@ -12,57 +12,57 @@ use Rattle.rules.specs.declared.Neighbor.{Neighbor}
 use Rattle.rules.specs.Loops.{each, through}
 use Rattle.rules.specs.Distance.{fit}
 use Rattle.rules.specs.Build.{Between}
-use Rattle.rules.specs.Rows.{emptySlot, emptyDistance}
-use Rattle.rules.specs.Offers.{unfilled, emptyBits, entryFormed, entriesFormed, listFormed}
-use Rattle.rules.specs.Descent.{Descent, beginContext, begun, Met, meet_all, unvisit, renewAll, unvisitAll, context_of, renewed, iterated}
+use Rattle.rules.specs.Rows.{empty_slot, empty_distance}
+use Rattle.rules.specs.Offers.{unfilled, empty_bits, entry_formed, entries_formed, list_formed}
+use Rattle.rules.specs.Descent.{Descent, begin_context, begun, Met, meet_all, unvisit, renew_all, unvisit_all, context_of, renewed, iterated}
 use Rattle.rules.proofs.Tests.{together}
 use Rattle.rules.proofs.Loops.{length-ones}
 use Rattle.neighbor.specs.Holdable.{Holdable}
-use Rattle.neighbor.proofs.Bits.{holdable-empty}
+use Rattle.neighbor.proofs.Bits.{holdable_empty}
 use Rattle.neighbor.proofs.Order.{irreflexive}
 use Rattle.lists.specs.Ascending.{AllHoldable, NoneBefore, Ascending}
 use Rattle.lists.specs.All.{All}
 use Rattle.lists.proofs.Plain.{all-at, all_of, all_weaker}
-use Rattle.steps.proofs.Formed.{of-ascending, Kept}
+use Rattle.steps.proofs.Formed.{of_ascending, Kept}
 use Rattle.encoded.proofs.Rows.{all_ones}
 use Rattle.descent_kept.specs.Formed.{Each, Few, Below, Formed}
-use Rattle.descent_kept.proofs.Lists.{through-keeps, turns_keeps, Lists, Meeting, all_meet}
-use Rattle.descent_kept.proofs.Contexts.{Good, good-begin, good-context, few-each, below_each, all-renewed}
+use Rattle.descent_kept.proofs.Lists.{through_keeps, turns_keeps, Lists, Meeting, all_meet}
+use Rattle.descent_kept.proofs.Contexts.{Good, good_begin, good_context, few-each, below_each, all-renewed}
 
 -- ---- unfilled lists
 
 module _ (n : ℕ) where
   abbrev e : Neighbor
-  e = emptySlot n
+  e = empty_slot n
 
-  none_before : (k : ℕ) → NoneBefore (emptySlot n) (replicate k (emptySlot n))
+  none_before : (k : ℕ) → NoneBefore (empty_slot n) (replicate k (empty_slot n))
   none_before zero = tt
-  none_before (suc k) = (irreflexive e holdable-empty, none_before k)
+  none_before (suc k) = (irreflexive e holdable_empty, none_before k)
 
-  ascends : (k : ℕ) → Ascending (replicate k (emptySlot n))
+  ascends : (k : ℕ) → Ascending (replicate k (empty_slot n))
   ascends zero = tt
   ascends (suc k) = (none_before k, ascends k)
 
-  holdables : (k : ℕ) → AllHoldable (replicate k (emptySlot n))
+  holdables : (k : ℕ) → AllHoldable (replicate k (empty_slot n))
   holdables zero = tt
-  holdables (suc k) = (holdable-empty, holdables k)
+  holdables (suc k) = (holdable_empty, holdables k)
 
-  empty-bits : eqb (to_bits binary32 emptyDistance) emptyBits ≡ true
+  empty_bits_lem : eqb (to_bits binary32 empty_distance) empty_bits ≡ true
   unfolding of_bits to_bits
-  empty-bits = refl
+  empty_bits_lem = refl
 
-  empty-formed : entryFormed n (emptySlot n) ≡ true
-  unfolding entryFormed
-  empty-formed = rw (eq-eqb n n refl) empty-bits
+  empty_formed : entry_formed n (empty_slot n) ≡ true
+  unfolding entry_formed
+  empty_formed = rw (eq-eqb n n refl) empty_bits_lem
 
-  empties-formed : (k : ℕ) → entriesFormed n (replicate k (emptySlot n)) ≡ true
-  unfolding entriesFormed
-  empties-formed zero = refl
-  empties-formed (suc k) = together _ _ empty-formed (empties-formed k)
+  empties_formed : (k : ℕ) → entries_formed n (replicate k (empty_slot n)) ≡ true
+  unfolding entries_formed
+  empties_formed zero = refl
+  empties_formed (suc k) = together _ _ empty_formed (empties_formed k)
 
   pub kept-unfilled : (k : ℕ) → Kept n (unfilled n k)
-  unfolding unfilled listFormed
-  kept-unfilled k = record { holdable = holdables k; formed = together _ _ (of-ascending (replicate k e) (ascends k)) (empties-formed k) }
+  unfolding unfilled list_formed
+  kept-unfilled k = record { holdable = holdables k; formed = together _ _ (of_ascending (replicate k e) (ascends k)) (empties_formed k) }
 
 all_replicate : {A : Type 0} (P : A → Type 0) (m : ℕ) (x : A) → P x → All P (replicate m x)
 all_replicate P zero x p = tt
@@ -73,14 +73,14 @@ all_replicate P (suc m) x p = (p, all_replicate P m x p)
 pub begun-formed : (draws : List ℕ) (n k s : ℕ) → 0 < n → s ≤ 64 → Formed n k (begun draws n k s)
 unfolding begun unfilled
 begun-formed draws n k s some few =
-    let G = all_ones (beginContext draws n s) (Each (Good n some)) n (λ (i : ℕ) (h : i < n). good-begin n some draws s i few) in
-    let cs = each (λ (i : ℕ). beginContext draws n s i ∷ []) n in
+    let G = all_ones (begin_context draws n s) (Each (Good n some)) n (λ (i : ℕ) (h : i < n). good_begin n some draws s i few) in
+    let cs = each (λ (i : ℕ). begin_context draws n s i ∷ []) n in
     record {
       fitting =
           record {
             nodes = length-replicate n (unfilled n k);
-            rows = all_replicate (λ (l : List Neighbor). length l ≡ k) n (unfilled n k) (length-replicate k (emptySlot n));
-            contexts = length-ones (beginContext draws n s) n;
+            rows = all_replicate (λ (l : List Neighbor). length l ≡ k) n (unfilled n k) (length-replicate k (empty_slot n));
+            contexts = length-ones (begin_context draws n s) n;
             few = all_weaker (Each (Good n some)) (Each Few) (few-each n some) cs G;
             pairs = length-replicate (n * n) false;
           };
@@ -90,15 +90,15 @@ begun-formed draws n k s some few =
 
 -- ---- an iteration
 
-unvisit-long : (n : ℕ) (news : List (List ℕ)) (visited : List Bool) → length (unvisitAll n news visited) ≡ length visited
-unfolding unvisitAll unvisit
+unvisit-long : (n : ℕ) (news : List (List ℕ)) (visited : List Bool) → length (unvisit_all n news visited) ≡ length visited
+unfolding unvisit_all unvisit
 unvisit-long n news visited =
     turns_keeps (λ (v : List Bool). length v ≡ length visited) (λ (i : ℕ) (v : List Bool). through (unvisit n i) (get_or news i []) v) n
     (λ (i : ℕ) (v : List Bool) (h : i < n) (p : length v ≡ length visited). row i (get_or news i []) v p) visited refl
   where
     row : (i : ℕ) (xs : List ℕ) (v : List Bool) → length v ≡ length visited → length (through (unvisit n i) xs v) ≡ length visited
     row i xs v p =
-        through-keeps (λ (y : List Bool). length y ≡ length visited) (λ (x : ℕ). Unit {0}) (unvisit n i)
+        through_keeps (λ (y : List Bool). length y ≡ length visited) (λ (x : ℕ). Unit {0}) (unvisit n i)
         (λ (j : ℕ) (y : List Bool) (u : Unit {0}) (q : length y ≡ length visited). length-set y (i * n + j) false ∙ q) xs v (units xs) p
       where
         units : (ys : List ℕ) → All (λ (x : ℕ). Unit {0}) ys
@@ -122,9 +122,9 @@ module _ (d : Between) (n k s : ℕ) (nodes : 0 < n) (some : 1 ≤ k) (most : k 
   renewed-formed : (draws : List ℕ) (m : Met) → Meeting d n k some far near m → Formed n k (renewed draws n s m).descent
   unfolding renewed
   renewed-formed draws m M =
-      let r = renewAll draws n s m.visited m.lists in
+      let r = renew_all draws n s m.visited m.lists in
       let R = all-renewed n nodes draws k s m.visited m.lists most M.lists in
-      let G = all_ones (context_of draws n s r) (Each (Good n nodes)) n (λ (w : ℕ) (h : w < n). good-context n nodes draws s r w few R) in
+      let G = all_ones (context_of draws n s r) (Each (Good n nodes)) n (λ (w : ℕ) (h : w < n). good_context n nodes draws s r w few R) in
       let cs = each (λ (w : ℕ). context_of draws n s r w ∷ []) n in
       let sz = M.lists.nodes in
       record {

@@ -1,6 +1,6 @@
 -- Descents that their encoding has room for, and "well formed" of the descent that a state encodes. Assumes nothing.
 use Rattle.std.specs.Prelude.{◌≡◌, List, ℕ, ◌*◌, ◌≤◌, ◌<◌, length}
-use Rattle.rules.specs.Descent.{Context, Descent, listAt}
+use Rattle.rules.specs.Descent.{Context, Descent, list_at}
 use Rattle.lists.specs.All.{All}
 use Rattle.steps.proofs.Formed.{Kept}
 use Rattle.encoded.specs.Words.{Rows}
@@ -9,8 +9,8 @@ use Rattle.encoded.specs.Words.{Rows}
 pub record Each (P : List ℕ → Type 0) (c : Context) : Type 0 where
   pub new : P c.new
   pub old : P c.old
-  pub reversed-new : P c.reversed-new
-  pub reversed-old : P c.reversed-old
+  pub reversed_new : P c.reversed_new
+  pub reversed_old : P c.reversed_old
 
 abbrev pub Few : List ℕ → Type 0
 Few xs = length xs ≤ 64
@@ -29,5 +29,5 @@ Below n xs = All (λ (v : ℕ). v < n) xs
 -- "ascending, no node above n, node n exactly with that distance, all other distances fit; each of a node's four context lists at most 64 long with nodes below n"
 pub record Formed (n k : ℕ) (x : Descent) : Type 0 where
   pub fitting : Fitting n k x
-  pub lists : (w : ℕ) → w < n → Kept n (listAt x.lists w)
+  pub lists : (w : ℕ) → w < n → Kept n (list_at x.lists w)
   pub members : All (Each (Below n)) x.contexts

@@ -11,10 +11,10 @@ use lib.Dec.{eqb, ltb}
 use lib.ListN.{length, take, drop, get_or, replicate, length-take, length-drop, take-append-drop, drop_of_length-le}
 use lib.Seq.{take_all, length-take-le, drop-cons, get_or-take, get_or-drop}
 use Rattle.rules.specs.Places.{padded, same_words}
-use Rattle.rules.specs.DescentPlaces.{memberWords, membersIn, membersFormed}
+use Rattle.rules.specs.DescentPlaces.{member_words, members_in, members_formed}
 use Rattle.encoded.proofs.Same.{same-words, same-words-append}
 use Rattle.zeros.specs.Zeros.{zeros}
-use Rattle.descent_state.specs.State.{memberTest}
+use Rattle.descent_state.specs.State.{member_test}
 
 -- the same as zeros
 same-zeros : (xs : List ℕ) (m : ℕ) → length xs ≡ m → same_words xs (replicate m 0) ≡ zeros xs
@@ -29,22 +29,22 @@ module _ (n : ℕ) (us : List ℕ) (long : length us ≡ 65) where
   len = get_or us 0 0
 
   -- the length that stands there is more than the list can be
-  pub too_long : 64 < len → false ≡ memberTest n us
-  unfolding memberTest memberWords membersIn same_words
+  pub too_long : 64 < len → false ≡ member_test n us
+  unfolding member_test member_words members_in same_words
   too_long h = go us long h
     where
-      go : (xs : List ℕ) → length xs ≡ 65 → 64 < get_or xs 0 0 → false ≡ memberTest n xs
+      go : (xs : List ℕ) → length xs ≡ 65 → 64 < get_or xs 0 0 → false ≡ member_test n xs
       go [] e g = absurd (omega arith)
       go (x ∷ xs) e g =
           let l : length (take x (take 64 xs)) ≡ 64 = simp length-take (omega arith) in
           rw (l, ne_eqb x 64 (λ (q : x ≡ 64). absurd (omega arith)))
 
   module _ (h : len ≤ 64) where
-    test-is : memberTest n us ≡ (zeros (drop (len + 1) us) && membersFormed n (take len (drop 1 us)))
-    unfolding memberTest memberWords membersIn padded same_words
+    test-is : member_test n us ≡ (zeros (drop (len + 1) us) && members_formed n (take len (drop 1 us)))
+    unfolding member_test member_words members_in padded same_words
     test-is = go us long h
       where
-        go : (xs : List ℕ) → length xs ≡ 65 → get_or xs 0 0 ≤ 64 → memberTest n xs ≡ (zeros (drop (get_or xs 0 0 + 1) xs) && membersFormed n (take (get_or xs 0 0) (drop 1 xs)))
+        go : (xs : List ℕ) → length xs ≡ 65 → get_or xs 0 0 ≤ 64 → member_test n xs ≡ (zeros (drop (get_or xs 0 0 + 1) xs) && members_formed n (take (get_or xs 0 0) (drop 1 xs)))
         go [] e g = absurd (omega arith)
         go (x ∷ xs) e g =
             let w : length xs ≡ 64 = suc_inj e in
@@ -56,10 +56,10 @@ module _ (n : ℕ) (us : List ℕ) (long : length us ≡ 65) where
             ∙ rw (same-words (take x xs) (take x xs) refl) (same-zeros (drop x xs) (64 - x) r) in
             rw (take_all 64 xs (omega arith), l, eq-eqb x x refl, same, add-one)
 
-    pub not_zeros : zeros (drop (len + 1) us) ≡ false → false ≡ memberTest n us
+    pub not_zeros : zeros (drop (len + 1) us) ≡ false → false ≡ member_test n us
     not_zeros e = sym (test-is ∙ rw e)
 
-    pub all-zeros : zeros (drop (len + 1) us) ≡ true → membersFormed n (take len (drop 1 us)) ≡ memberTest n us
+    pub all-zeros : zeros (drop (len + 1) us) ≡ true → members_formed n (take len (drop 1 us)) ≡ member_test n us
     all-zeros e = sym (test-is ∙ rw e)
 
 -- ---- the members, from the front
@@ -72,38 +72,38 @@ module _ (n len : ℕ) (us : List ℕ) (inside : len < length us) where
   members-long = length-take-le len (drop 1 us) (simp length-drop (omega arith))
 
   module _ (i : ℕ) where
-    next-is : i < len → membersFormed n (drop i members) ≡ (ltb (get_or us (i + 1) 0) n && membersFormed n (drop (i + 1) members))
-    unfolding membersFormed
+    next-is : i < len → members_formed n (drop i members) ≡ (ltb (get_or us (i + 1) 0) n && members_formed n (drop (i + 1) members))
+    unfolding members_formed
     next-is h =
         let long = members-long in
         let e : 1 + i ≡ i + 1 = omega arith in
-        ap (membersFormed n) (drop-cons members i 0 (omega arith))
-        ∙ ap (λ (x : ℕ). ltb x n && membersFormed n (drop (suc i) members)) (get_or-take len (drop 1 us) i 0 h ∙ get_or-drop 1 us i 0 ∙ ap (λ (j : ℕ). get_or us j 0) e)
+        ap (members_formed n) (drop-cons members i 0 (omega arith))
+        ∙ ap (λ (x : ℕ). ltb x n && members_formed n (drop (suc i) members)) (get_or-take len (drop 1 us) i 0 h ∙ get_or-drop 1 us i 0 ∙ ap (λ (j : ℕ). get_or us j 0) e)
         ∙ rw add-one
 
-    pub below-turn : i < len → get_or us (i + 1) 0 < n → membersFormed n (drop (i + 1) members) ≡ membersFormed n (drop i members)
-    below-turn h g = sym (next-is h ∙ rw (lt-ltb (get_or us (i + 1) 0) n g))
+    pub below_turn : i < len → get_or us (i + 1) 0 < n → members_formed n (drop (i + 1) members) ≡ members_formed n (drop i members)
+    below_turn h g = sym (next-is h ∙ rw (lt-ltb (get_or us (i + 1) 0) n g))
 
-    pub below-not : i < len → n ≤ get_or us (i + 1) 0 → membersFormed n (drop i members) ≡ false
+    pub below-not : i < len → n ≤ get_or us (i + 1) 0 → members_formed n (drop i members) ≡ false
     below-not h g = next-is h ∙ rw (le-ltb (get_or us (i + 1) 0) n g)
 
-    pub below_end : len ≤ i → membersFormed n (drop i members) ≡ true
-    unfolding membersFormed
-    below_end h = let long = members-long in ap (membersFormed n) (drop_of_length-le members {i = i} (omega arith))
+    pub below_end : len ≤ i → members_formed n (drop i members) ≡ true
+    unfolding members_formed
+    below_end h = let long = members-long in ap (members_formed n) (drop_of_length-le members {i = i} (omega arith))
 
 pub record Checked (n len : ℕ) (us : List ℕ) (i : ℕ) : Type 0 where
   pub within : i ≤ len
-  pub left : membersFormed n (drop i (take len (drop 1 us))) ≡ membersFormed n (take len (drop 1 us))
+  pub left : members_formed n (drop i (take len (drop 1 us))) ≡ members_formed n (take len (drop 1 us))
 
-pub checked-none : {n len : ℕ} {us : List ℕ} → Checked n len us 0
-checked-none = record { within = zero-le; left = refl }
+pub checked_none : {n len : ℕ} {us : List ℕ} → Checked n len us 0
+checked_none = record { within = zero-le; left = refl }
 
 module _ {n len : ℕ} {us : List ℕ} {i : ℕ} (inv : Checked n len us i) (inside : len < length us) where
-  pub checked-turn : i < len → get_or us (i + 1) 0 < n → Checked n len us (i + 1)
-  checked-turn h g = record { within = omega arith; left = below-turn n len us inside i h g ∙ inv.left }
+  pub checked_turn : i < len → get_or us (i + 1) 0 < n → Checked n len us (i + 1)
+  checked_turn h g = record { within = omega arith; left = below_turn n len us inside i h g ∙ inv.left }
 
-  pub checked-not : i < len → n ≤ get_or us (i + 1) 0 → false ≡ membersFormed n (take len (drop 1 us))
-  checked-not h g = sym (sym inv.left ∙ below-not n len us inside i h g)
+  pub checked_not : i < len → n ≤ get_or us (i + 1) 0 → false ≡ members_formed n (take len (drop 1 us))
+  checked_not h g = sym (sym inv.left ∙ below-not n len us inside i h g)
 
-  pub checked-end : len ≤ i → true ≡ membersFormed n (take len (drop 1 us))
-  checked-end h = sym (sym inv.left ∙ below_end n len us inside i h)
+  pub checked_end : len ≤ i → true ≡ members_formed n (take len (drop 1 us))
+  checked_end h = sym (sym inv.left ∙ below_end n len us inside i h)

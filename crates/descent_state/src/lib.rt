@@ -1,15 +1,15 @@
 // Row 12 of an iteration: whether a descent's state is well formed, part by part.
 ghost use Rattle.std.specs.Prelude.{◌≡◌, not, ℕ, ◌+◌, ◌-◌, ◌*◌, ◌≤◌, ◌<◌, length, take, drop};
 ghost use Rattle.rules.specs.Loops.{part};
-ghost use Rattle.rules.specs.DescentPlaces.{bit_at, membersFormed, descentFormed};
+ghost use Rattle.rules.specs.DescentPlaces.{bit_at, members_formed, descent_formed};
 ghost use Rattle.zeros.specs.Zeros.{all_below};
 ghost use Rattle.visits.specs.Marks.{marks};
-ghost use Rattle.descent_state.specs.State.{Sized, memberTest};
+ghost use Rattle.descent_state.specs.State.{Sized, member_test};
 
 // Whether each of the `len` members behind the first word is below `n`.
 fn members_below(words: &[u32], len: usize, n: usize) -> bool
     requires { len < length words.now }
-    ensures { result ≡ membersFormed n (take len (drop 1 words.now)) }
+    ensures { result ≡ members_formed n (take len (drop 1 words.now)) }
 {
     let mut i: usize = 0;
     while i < len {
@@ -24,7 +24,7 @@ fn members_below(words: &[u32], len: usize, n: usize) -> bool
 /// Whether 65 words are a well-formed list of a context: its length, at most 64, members below `n`, zeros behind them.
 pub fn members_formed(words: &[u32], n: usize) -> bool
     requires { length words.now ≡ 65 }
-    ensures { result ≡ memberTest n words.now }
+    ensures { result ≡ member_test n words.now }
 {
     let len = words[0] as usize;
     if 64 < len {
@@ -39,7 +39,7 @@ pub fn members_formed(words: &[u32], n: usize) -> bool
 // Whether the four lists of each of `n` contexts are well formed.
 fn contexts_formed(words: &[u32], n: usize) -> bool
     requires { (n ≤ 1024) × (length words.now ≡ 4 * n * 65) }
-    ensures { result ≡ all_below (λ (i : ℕ). memberTest n (part 65 i words.now)) (4 * n) }
+    ensures { result ≡ all_below (λ (i : ℕ). member_test n (part 65 i words.now)) (4 * n) }
 {
     let count = 4 * n;
     let mut i: usize = 0;
@@ -74,7 +74,7 @@ fn spare_clear(words: &[u32], n: usize) -> bool
 /// Whether a descent's state is well formed.
 pub fn descent_formed(n: usize, k: usize, words: &[u32], floats: &[f32]) -> bool
     requires { Sized n k words.now floats.now }
-    ensures { result ≡ descentFormed n k words.now floats.now }
+    ensures { result ≡ descent_formed n k words.now floats.now }
 {
     if !formed::lists_formed(words, floats, n, k) {
         return false;

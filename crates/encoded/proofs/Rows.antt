@@ -6,7 +6,7 @@ use native.Mathlib.Nat.{suc-mul, zero-mul, le_of_suc-le-suc, not-suc-le-zero, le
 use native.Mathlib.Omega.{arith}
 use lib.ListN.{length, take, drop, get_or, set, length-append, length-drop}
 use lib.Seq.{length-take-le, take_at, drop_at, drop-drop, get_or-drop, take-suc, take_all, drop-append-add, take-append-add}
-use Rattle.rules.specs.Loops.{each, part, putPart}
+use Rattle.rules.specs.Loops.{each, part, put_part}
 use Rattle.lists.specs.All.{All}
 use Rattle.lists.proofs.Plain.{all_append, all_take}
 use Rattle.encoded.specs.Words.{joined, Rows}
@@ -45,15 +45,15 @@ module _ {A : Type 0} where
 
   -- ---- a part of a list
 
-  pub length-part-of : (w n q : ℕ) (xs : List A) → n * w ≤ length xs → q < n → length (part w q xs) ≡ w
+  pub length-part_of : (w n q : ℕ) (xs : List A) → n * w ≤ length xs → q < n → length (part w q xs) ≡ w
   unfolding part
-  length-part-of w n q xs e h =
+  length-part_of w n q xs e h =
       let a = mul-le-mul_right w h in
       let b = suc-mul q w in
       length-take-le w (drop (q * w) xs) (simp length-drop (omega arith))
 
   pub length_part : (w n q : ℕ) (xs : List A) → length xs ≡ n * w → q < n → length (part w q xs) ≡ w
-  length_part w n q xs e h = length-part-of w n q xs (omega arith) h
+  length_part w n q xs e h = length-part_of w n q xs (omega arith) h
 
   pub all_drop : (P : A → Type 0) (m : ℕ) (xs : List A) → All P xs → All P (drop m xs)
   all_drop P zero xs X = X
@@ -93,19 +93,19 @@ module _ {A : Type 0} where
       ap (drop (suc q * w)) (append_assoc r (joined rs) xs) ∙ ap (λ (i : ℕ). drop i (r ++ (joined rs ++ xs))) e
       ∙ drop-append-add r (joined rs ++ xs) (q * w) ∙ drop-joined w rs xs q R.1 (le_of_suc-le-suc h)
 
-  pub row-long : (w : ℕ) (rs : List (List A)) (q : ℕ) → Rows w rs → q < length rs → length (get_or rs q []) ≡ w
-  row-long w [] q R h = absurd (not-suc-le-zero h)
-  row-long w (r ∷ rs) zero R h = R.0
-  row-long w (r ∷ rs) (suc q) R h = row-long w rs q R.1 (le_of_suc-le-suc h)
+  pub row_long : (w : ℕ) (rs : List (List A)) (q : ℕ) → Rows w rs → q < length rs → length (get_or rs q []) ≡ w
+  row_long w [] q R h = absurd (not-suc-le-zero h)
+  row_long w (r ∷ rs) zero R h = R.0
+  row_long w (r ∷ rs) (suc q) R h = row_long w rs q R.1 (le_of_suc-le-suc h)
 
   -- row q
   pub part-joined : (w : ℕ) (rs : List (List A)) (xs : List A) (q : ℕ) → Rows w rs → q < length rs → part w q (joined rs ++ xs) ≡ get_or rs q []
   unfolding part
-  part-joined w rs xs q R h = ap (take w) (drop-joined w rs xs q R h) ∙ take_at (get_or rs q []) (joined (drop (suc q) rs) ++ xs) w (row-long w rs q R h)
+  part-joined w rs xs q R h = ap (take w) (drop-joined w rs xs q R h) ∙ take_at (get_or rs q []) (joined (drop (suc q) rs) ++ xs) w (row_long w rs q R h)
 
   -- another row in its place
-  pub joined-set : (w : ℕ) (rs : List (List A)) (q : ℕ) (r' : List A) → Rows w rs → q < length rs → joined (set rs q r') ≡ putPart w q r' (joined rs)
-  unfolding joined putPart
+  pub joined-set : (w : ℕ) (rs : List (List A)) (q : ℕ) (r' : List A) → Rows w rs → q < length rs → joined (set rs q r') ≡ put_part w q r' (joined rs)
+  unfolding joined put_part
   joined-set w [] q r' R h = absurd (not-suc-le-zero h)
   joined-set w (r ∷ rs) zero r' R h =
       let e = zero-mul w in
@@ -129,7 +129,7 @@ pub rows-map : {A B : Type 0} (w : ℕ) (f : A → List B) (P : A → Type 0) �
 rows-map w f P h [] X = tt
 rows-map w f P h (x ∷ xs) X = (h x X.0, rows-map w f P h xs X.1)
 
-pub getD-mapped : {A B : Type 0} (f : A → B) (xs : List A) (i : ℕ) (y : B) (x : A) → i < length xs → get_or (map f xs) i y ≡ f (get_or xs i x)
-getD-mapped f [] i y x h = absurd (not-suc-le-zero h)
-getD-mapped f (a ∷ xs) zero y x h = refl
-getD-mapped f (a ∷ xs) (suc i) y x h = getD-mapped f xs i y x (le_of_suc-le-suc h)
+pub get_d_mapped : {A B : Type 0} (f : A → B) (xs : List A) (i : ℕ) (y : B) (x : A) → i < length xs → get_or (map f xs) i y ≡ f (get_or xs i x)
+get_d_mapped f [] i y x h = absurd (not-suc-le-zero h)
+get_d_mapped f (a ∷ xs) zero y x h = refl
+get_d_mapped f (a ∷ xs) (suc i) y x h = get_d_mapped f xs i y x (le_of_suc-le-suc h)

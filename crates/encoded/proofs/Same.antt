@@ -8,7 +8,7 @@ use lib.Dec.{eqb}
 use lib.ListN.{length}
 use lib.Ieee.{Float, binary32, to_bits}
 use borrow.Author.Tests.{eqb-true, eq-eqb}
-use Rattle.rules.specs.Places.{same_words, sameFloats}
+use Rattle.rules.specs.Places.{same_words, same_floats}
 use Rattle.rules.proofs.Tests.{both, and_assoc}
 use Rattle.neighbor.proofs.Bits.{bits-same}
 use Rattle.encoded.specs.Words.{Binary32}
@@ -44,12 +44,12 @@ same-words-append (x ∷ xs) (y ∷ ys) zs ws h =
 
 -- ---- floats, by their bits: there is one NaN, so that equal bits are one value
 
-pub same-floats : (xs ys : List Float) → xs ≡ ys → sameFloats xs ys ≡ true
-unfolding sameFloats
+pub same-floats : (xs ys : List Float) → xs ≡ ys → same_floats xs ys ≡ true
+unfolding same_floats
 same-floats xs ys e = same-words (map (to_bits binary32) xs) (map (to_bits binary32) ys) (ap (map (to_bits binary32)) e)
 
-pub floats_same : (xs ys : List Float) → Binary32 xs → Binary32 ys → sameFloats xs ys ≡ true → xs ≡ ys
-unfolding sameFloats
+pub floats_same : (xs ys : List Float) → Binary32 xs → Binary32 ys → same_floats xs ys ≡ true → xs ≡ ys
+unfolding same_floats
 floats_same xs ys X Y h = go xs ys X Y (words_same (map (to_bits binary32) xs) (map (to_bits binary32) ys) h)
   where
     go : (xs ys : List Float) → Binary32 xs → Binary32 ys → map (to_bits binary32) xs ≡ map (to_bits binary32) ys → xs ≡ ys

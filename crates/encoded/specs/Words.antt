@@ -2,7 +2,7 @@
 use Rattle.std.specs.Prelude.{◌≡◌, false, List, [], ◌∷◌, ◌++◌, ℕ, ◌+◌, ◌≤◌, T, length, Float}
 use Rattle.std.specs.Float.{binary32}
 use Rattle.std.specs.Float.Ieee.{fits}
-use Rattle.rules.specs.Relay.{Job, Relay, fresh, isPopped}
+use Rattle.rules.specs.Relay.{Job, Relay, fresh, is_popped}
 use Rattle.lists.specs.All.{All}
 
 module _ {A : Type 0} where
@@ -25,7 +25,7 @@ Binary32 xs = All (λ (x : Float). T (fits binary32 x)) xs
 
 -- the steps done of the two halves can be told from their sum: the second half has not begun before the first is done
 abbrev pub Readable : Job → Type 0
-Readable j = isPopped j.first ≡ false → j.second ≡ fresh
+Readable j = is_popped j.first ≡ false → j.second ≡ fresh
 
 -- a relay that its encoding has room for
 pub record Fitting (n k : ℕ) (r : Relay) : Type 0 where

@@ -4,21 +4,21 @@ use Rattle.std.specs.Float.{nan}
 use Rattle.rules.specs.Loops.{each, over}
 use Rattle.rules.specs.Distance.{answer, carried}
 use Rattle.rules.specs.Lists.{entries, insert, least}
-use Rattle.rules.specs.Rows.{emptyDistance}
+use Rattle.rules.specs.Rows.{empty_distance}
 use Rattle.neighbor.specs.Holdable.{Holdable}
-use Rattle.rules.specs.Build.{Between, entry, others, exactList}
+use Rattle.rules.specs.Build.{Between, entry, others, exact_list}
 
 -- the distances of q to the nodes 0, 1, .., n - 1
-unfoldable pub distancesFrom : Between → ℕ → ℕ → List Float
-distancesFrom d n q = each (λ (i : ℕ). d q i ∷ []) n
+unfoldable pub distances_from : Between → ℕ → ℕ → List Float
+distances_from d n q = each (λ (i : ℕ). d q i ∷ []) n
 
 -- the same distance of any two
 abbrev pub always : Float → Between
 always x q i = x
 
 -- a distance that is read from a slice that holds one in each step places, from the place at on
-abbrev pub apartIn : ℕ → ℕ → List Float → Between
-apartIn step at row q i = get_or row (i * step + at) nan
+abbrev pub apart_in : ℕ → ℕ → List Float → Between
+apart_in step at row q i = get_or row (i * step + at) nan
 
 -- a list can hold the first n of them
 abbrev pub HoldsRow : ℕ → ℕ → List Float → ℕ → Type 0
@@ -36,7 +36,7 @@ Eight d n base m rows = (t i : ℕ) → t < 8 → base + t < n → i < m → get
 
 -- nothing farther than this is among the least k
 unfoldable pub farthest : List Float → ℕ → ℕ → Float
-farthest ds len k = cond (ltb len k) emptyDistance (get_or ds (len - 1) nan)
+farthest ds len k = cond (ltb len k) empty_distance (get_or ds (len - 1) nan)
 
 -- a node below n that is not q
 abbrev pub Other : ℕ → ℕ → ℕ → Type 0
@@ -47,10 +47,10 @@ pub record Offered (d : Between) (q i k : ℕ) (ns : List ℕ) (ds : List Float)
   pub list : entries r ns' ds' ≡ cond (eqb i q) (entries len ns ds) (take k (insert (entry d q i) (entries len ns ds)))
   pub more : len ≤ r
   pub within : r ≤ k
-  pub nodes-rest : drop r ns' ≡ drop r ns
-  pub dists-rest : drop r ds' ≡ drop r ds
-  pub nodes-long : length ns' ≡ length ns
-  pub dists-long : length ds' ≡ length ds
+  pub nodes_rest : drop r ns' ≡ drop r ns
+  pub dists_rest : drop r ds' ≡ drop r ds
+  pub nodes_long : length ns' ≡ length ns
+  pub dists_long : length ds' ≡ length ds
 
 -- the same, with the farthest that is held then
 pub record Considered (d : Between) (q i k : ℕ) (ns : List ℕ) (ds : List Float) (len : ℕ) (ns' : List ℕ) (ds' : List Float) (r : ℕ) (bound : Float) : Type 0 where
@@ -61,27 +61,27 @@ pub record Considered (d : Between) (q i k : ℕ) (ns : List ℕ) (ds : List Flo
 pub record Gathered (d : Between) (n k q : ℕ) (ns : List ℕ) (ds : List Float) (ns' : List ℕ) (ds' : List Float) (r : ℕ) : Type 0 where
   pub list : entries r ns' ds' ≡ least k (map (entry d q) (others q n))
   pub within : r ≤ k
-  pub nodes-rest : drop r ns' ≡ drop r ns
-  pub dists-rest : drop r ds' ≡ drop r ds
-  pub nodes-long : length ns' ≡ length ns
-  pub dists-long : length ds' ≡ length ds
+  pub nodes_rest : drop r ns' ≡ drop r ns
+  pub dists_rest : drop r ds' ≡ drop r ds
+  pub nodes_long : length ns' ≡ length ns
+  pub dists_long : length ds' ≡ length ds
 
 -- the exact list of q in the first r places of out
 pub record Listed (d : Between) (n k q : ℕ) (ns : List ℕ) (ds : List Float) (out : List ℕ) (ns' : List ℕ) (ds' : List Float) (out' : List ℕ) (r : ℕ) : Type 0 where
-  pub list : take r out' ≡ exactList d n k q
-  pub count : r ≡ length (exactList d n k q)
+  pub list : take r out' ≡ exact_list d n k q
+  pub count : r ≡ length (exact_list d n k q)
   pub fewest : r ≡ min k (n - 1)
-  pub out-rest : drop r out' ≡ drop r out
-  pub out-long : length out' ≡ length out
+  pub out_rest : drop r out' ≡ drop r out
+  pub out_long : length out' ≡ length out
   pub work : Gathered d n k q ns ds ns' ds' r
 
 -- the same, and what the work leaves behind in the other slices
 pub record Exact (d : Between) (n k q : ℕ) (row : List Float) (ns : List ℕ) (ds : List Float) (out : List ℕ) (row' : List Float) (ns' : List ℕ) (ds' : List Float) (out' : List ℕ) (r : ℕ) : Type 0 where
-  pub list : take r out' ≡ exactList d n k q
-  pub count : r ≡ length (exactList d n k q)
+  pub list : take r out' ≡ exact_list d n k q
+  pub count : r ≡ length (exact_list d n k q)
   pub fewest : r ≡ min k (n - 1)
-  pub out-rest : drop r out' ≡ drop r out
-  pub out-long : length out' ≡ length out
-  pub distances : row' ≡ over n (distancesFrom d n q) row
-  pub row-long : length row' ≡ length row
+  pub out_rest : drop r out' ≡ drop r out
+  pub out_long : length out' ≡ length out
+  pub distances : row' ≡ over n (distances_from d n q) row
+  pub row_long : length row' ≡ length row
   pub work : Gathered d n k q ns ds ns' ds' r

@@ -6,14 +6,14 @@ ghost use Rattle.rules.specs.Distance.{between};
 ghost use Rattle.neighbor.specs.Holdable.{Holdable};
 ghost use Rattle.lists.specs.All.{All};
 ghost use Rattle.lists.specs.Ascending.{AllHoldable, Ascending};
-ghost use Rattle.exact.specs.Exact.{distancesFrom, always, apartIn, HoldsRow, farthest, PutEight, Eight, Offered, Considered, Gathered, Listed, Exact};
+ghost use Rattle.exact.specs.Exact.{distances_from, always, apart_in, HoldsRow, farthest, PutEight, Eight, Offered, Considered, Gathered, Listed, Exact};
 
 use rules::{Neighbor, NodeId};
 
 /// Writes the distances of `q` to the nodes 0, 1, .., n - 1 to the first n places of `out`.
 pub fn distances_from(lanes: &[f32], dimension: usize, n: usize, q: NodeId, out: &mut [f32])
     requires { (length lanes.now ≡ n * dimension) × (n ≤ 4096) × (q.0 < n) × (n ≤ length out.old) }
-    ensures { out.new ≡ over n (distancesFrom (between lanes.now dimension) n q.0) out.old }
+    ensures { out.new ≡ over n (distances_from (between lanes.now dimension) n q.0) out.old }
 {
     let mut i = 0usize;
     while i < n {
@@ -179,7 +179,7 @@ fn gather(
 ) -> usize
     requires holds_row { HoldsRow step at row.now n × (n ≤ 4096) × (step ≤ 8) × (at < step) × (n * step ≤ length row.now) }
     requires le_init_k { (1 ≤ init_k) × (init_k ≤ length nodes.old) × (init_k ≤ length dists.old) }
-    ensures { Gathered (apartIn step at row.now) n init_k q.0 nodes.old dists.old nodes.new dists.new result }
+    ensures { Gathered (apart_in step at row.now) n init_k q.0 nodes.old dists.old nodes.new dists.new result }
 {
     let mut len = 0;
     let mut bound = farthest(dists, 0, init_k);
@@ -220,7 +220,7 @@ pub fn list_of(
 ) -> usize
     requires holds_row { HoldsRow step at row.now n × (n ≤ 4096) × (step ≤ 8) × (at < step) × (n * step ≤ length row.now) × (q.0 < n) }
     requires le_init_k { (1 ≤ init_k) × (init_k ≤ length nodes.old) × (init_k ≤ length dists.old) × (init_k ≤ length out.old) }
-    ensures { Listed (apartIn step at row.now) n init_k q.0 nodes.old dists.old out.old nodes.new dists.new out.new result }
+    ensures { Listed (apart_in step at row.now) n init_k q.0 nodes.old dists.old out.old nodes.new dists.new out.new result }
 {
     let len = gather(row, step, at, n, q, init_k, nodes, dists);
     turn_round(nodes, len, out);

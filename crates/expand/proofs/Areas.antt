@@ -13,14 +13,14 @@ use Rattle.rules.specs.Lists.{entries, insert}
 use Rattle.lists.specs.Lists.{Pushed}
 use Rattle.lists.proofs.Slices.{take-entries}
 use Rattle.buffers.specs.Area.{area}
-use Rattle.expand.specs.Areas.{bestAt, found_at, seenIn, queueIn, bestIn, foundIn, Room, QueueKept, FoundKept}
-use Rattle.buffers.proofs.Places.{length-area, put-length, put-area, put_front, put_low, put-high, set-area, set-low}
+use Rattle.expand.specs.Areas.{best_at, found_at, seen_in, queue_in, best_in, found_in, Room, QueueKept, FoundKept}
+use Rattle.buffers.proofs.Places.{length-area, put-length, put-area, put_front, put_low, put_high, set-area, set-low}
 
 -- ---- an entry is pushed among those found
 
 pub record FoundPushed (n : ℕ) (us : List ℕ) (fs : List Float) (len : ℕ) (e : Neighbor) (us' : List ℕ) (fs' : List Float) (r : ℕ) : Type 0 where
-  pub entries : foundIn n us' fs' r ≡ insert e (foundIn n us fs len)
-  pub seen : seenIn n us' ≡ seenIn n us
+  pub entries : found_in n us' fs' r ≡ insert e (found_in n us fs len)
+  pub seen : seen_in n us' ≡ seen_in n us
   pub kept : QueueKept n us fs us' fs'
   pub count : r ≡ len + 1
 
@@ -29,10 +29,10 @@ module _ (n : ℕ) (us : List ℕ) (fs : List Float) (room : Room n us fs) where
       → Pushed (area (found_at n) 64 us) (area (found_at n) 64 fs) len e ns ds r
       → FoundPushed n us fs len e (put_mid (found_at n) 64 us ns) (put_mid (found_at n) 64 fs ds) r
   found-pushed {len} {e} {ns} {ds} {r} p =
-      let rw-words = room.words in
-      let rw-floats = room.floats in
-      let wl : length ns ≡ 64 = p.nodes-long ∙ length-area (found_at n) 64 us (omega arith) in
-      let fl : length ds ≡ 64 = p.dists-long ∙ length-area (found_at n) 64 fs (omega arith) in
+      let rw_words = room.words in
+      let rw_floats = room.floats in
+      let wl : length ns ≡ 64 = p.nodes_long ∙ length-area (found_at n) 64 us (omega arith) in
+      let fl : length ds ≡ 64 = p.dists_long ∙ length-area (found_at n) 64 fs (omega arith) in
       let uf : found_at n + 64 ≤ length us = omega arith in
       let ff : found_at n + 64 ≤ length fs = omega arith in
       record {
@@ -43,8 +43,8 @@ module _ (n : ℕ) (us : List ℕ) (fs : List Float) (room : Room n us fs) where
         seen = put_front (found_at n) 64 us ns uf wl n (omega arith);
         kept = record {
           queue = put_low (found_at n) 64 us ns uf wl n n (omega arith);
-          nodes = put_low (found_at n) 64 us ns uf wl (bestAt n) 64 (omega arith);
-          dists = put_low (found_at n) 64 fs ds ff fl (bestAt n) 64 (omega arith);
+          nodes = put_low (found_at n) 64 us ns uf wl (best_at n) 64 (omega arith);
+          dists = put_low (found_at n) 64 fs ds ff fl (best_at n) 64 (omega arith);
           words = put-length (found_at n) 64 us ns uf wl;
           floats = put-length (found_at n) 64 fs ds ff fl;
         };
@@ -52,50 +52,50 @@ module _ (n : ℕ) (us : List ℕ) (fs : List Float) (room : Room n us fs) where
       }
 
   -- the same, of a part whose length is worked out by the code
-  pub found-pushed-by : (w : ℕ) → w ≡ 64 → {len : ℕ} {e : Neighbor} {ns : List ℕ} {ds : List Float} {r : ℕ}
+  pub found-pushed_by : (w : ℕ) → w ≡ 64 → {len : ℕ} {e : Neighbor} {ns : List ℕ} {ds : List Float} {r : ℕ}
       → Pushed (area (found_at n) w us) (area (found_at n) w fs) len e ns ds r
       → FoundPushed n us fs len e (put_mid (found_at n) w us ns) (put_mid (found_at n) w fs ds) r
-  found-pushed-by w e p = rw e (found-pushed (rw e at p))
+  found-pushed_by w e p = rw e (found-pushed (rw e at p))
 
   -- ---- the last of the best set gives way to an entry, which joins the queue
 
   pub record BestPushed (m : ℕ) (e : Neighbor) (us' : List ℕ) (fs' : List Float) : Type 0 where
-    pub best : bestIn n us' fs' m ≡ insert e (take (m - 1) (bestIn n us fs m))
-    pub queue : queueIn n us' ≡ queueIn n us
+    pub best : best_in n us' fs' m ≡ insert e (take (m - 1) (best_in n us fs m))
+    pub queue : queue_in n us' ≡ queue_in n us
     pub kept : FoundKept n us fs us' fs'
 
   pub best-pushed : {m : ℕ} {e : Neighbor} {ns : List ℕ} {ds : List Float} {r : ℕ} → 1 ≤ m → m ≤ 64
-      → Pushed (area (bestAt n) 64 us) (area (bestAt n) 64 fs) (m - 1) e ns ds r
-      → BestPushed m e (put_mid (bestAt n) 64 us ns) (put_mid (bestAt n) 64 fs ds)
+      → Pushed (area (best_at n) 64 us) (area (best_at n) 64 fs) (m - 1) e ns ds r
+      → BestPushed m e (put_mid (best_at n) 64 us ns) (put_mid (best_at n) 64 fs ds)
   best-pushed {m} {e} {ns} {ds} {r} some few p =
-      let rw-words = room.words in
-      let rw-floats = room.floats in
-      let wl : length ns ≡ 64 = p.nodes-long ∙ length-area (bestAt n) 64 us (omega arith) in
-      let fl : length ds ≡ 64 = p.dists-long ∙ length-area (bestAt n) 64 fs (omega arith) in
-      let uf : bestAt n + 64 ≤ length us = omega arith in
-      let ff : bestAt n + 64 ≤ length fs = omega arith in
+      let rw_words = room.words in
+      let rw_floats = room.floats in
+      let wl : length ns ≡ 64 = p.nodes_long ∙ length-area (best_at n) 64 us (omega arith) in
+      let fl : length ds ≡ 64 = p.dists_long ∙ length-area (best_at n) 64 fs (omega arith) in
+      let uf : best_at n + 64 ≤ length us = omega arith in
+      let ff : best_at n + 64 ≤ length fs = omega arith in
       let whole : m ≡ r = let c = p.count in omega arith in
       record {
         best =
-            ap (λ (l : List ℕ). entries m l (area (bestAt n) 64 (put_mid (bestAt n) 64 fs ds))) (put-area (bestAt n) 64 us ns uf wl)
-            ∙ ap (λ (l : List Float). entries m ns l) (put-area (bestAt n) 64 fs ds ff fl)
+            ap (λ (l : List ℕ). entries m l (area (best_at n) 64 (put_mid (best_at n) 64 fs ds))) (put-area (best_at n) 64 us ns uf wl)
+            ∙ ap (λ (l : List Float). entries m ns l) (put-area (best_at n) 64 fs ds ff fl)
             ∙ ap (λ (k : ℕ). entries k ns ds) whole
             ∙ p.list
-            ∙ ap (insert e) (sym (take-entries (m - 1) m (area (bestAt n) 64 us) (area (bestAt n) 64 fs) (omega arith)));
-        queue = put_low (bestAt n) 64 us ns uf wl n n (omega arith);
+            ∙ ap (insert e) (sym (take-entries (m - 1) m (area (best_at n) 64 us) (area (best_at n) 64 fs) (omega arith)));
+        queue = put_low (best_at n) 64 us ns uf wl n n (omega arith);
         kept = record {
-          seen = put_front (bestAt n) 64 us ns uf wl n (omega arith);
-          nodes = put-high (bestAt n) 64 us ns uf wl (found_at n) 64 (omega arith);
-          dists = put-high (bestAt n) 64 fs ds ff fl (found_at n) 64 (omega arith);
-          words = put-length (bestAt n) 64 us ns uf wl;
-          floats = put-length (bestAt n) 64 fs ds ff fl;
+          seen = put_front (best_at n) 64 us ns uf wl n (omega arith);
+          nodes = put_high (best_at n) 64 us ns uf wl (found_at n) 64 (omega arith);
+          dists = put_high (best_at n) 64 fs ds ff fl (found_at n) 64 (omega arith);
+          words = put-length (best_at n) 64 us ns uf wl;
+          floats = put-length (best_at n) 64 fs ds ff fl;
         };
       }
 
-  pub best-pushed-by : (w : ℕ) → w ≡ 64 → {m : ℕ} {e : Neighbor} {ns : List ℕ} {ds : List Float} {r : ℕ} → 1 ≤ m → m ≤ 64
-      → Pushed (area (bestAt n) w us) (area (bestAt n) w fs) (m - 1) e ns ds r
-      → BestPushed m e (put_mid (bestAt n) w us ns) (put_mid (bestAt n) w fs ds)
-  best-pushed-by w e some few p = rw e (best-pushed some few (rw e at p))
+  pub best-pushed_by : (w : ℕ) → w ≡ 64 → {m : ℕ} {e : Neighbor} {ns : List ℕ} {ds : List Float} {r : ℕ} → 1 ≤ m → m ≤ 64
+      → Pushed (area (best_at n) w us) (area (best_at n) w fs) (m - 1) e ns ds r
+      → BestPushed m e (put_mid (best_at n) w us ns) (put_mid (best_at n) w fs ds)
+  best-pushed_by w e some few p = rw e (best-pushed some few (rw e at p))
 
 -- ---- a flag is set
 
@@ -103,7 +103,7 @@ pub seen-marked : (n : ℕ) (us : List ℕ) (fs : List Float) (v : ℕ) → v < 
 seen-marked n us fs v h =
     record {
       queue = set-low us v 1 n n h;
-      nodes = set-low us v 1 (bestAt n) 64 (omega arith);
+      nodes = set-low us v 1 (best_at n) 64 (omega arith);
       dists = refl;
       words = length-set us v 1;
       floats = refl;
@@ -111,15 +111,15 @@ seen-marked n us fs v h =
 
 -- ---- the queue grows by one
 
-pub queue-grown : (n : ℕ) (us : List ℕ) (tail v : ℕ) → n + n ≤ length us → tail < n
-    → take (tail + 1) (queueIn n (set us (n + tail) v)) ≡ take tail (queueIn n us) ++ (v ∷ [])
-queue-grown n us tail v h l =
+pub queue_grown : (n : ℕ) (us : List ℕ) (tail v : ℕ) → n + n ≤ length us → tail < n
+    → take (tail + 1) (queue_in n (set us (n + tail) v)) ≡ take tail (queue_in n us) ++ (v ∷ [])
+queue_grown n us tail v h l =
     let long = length-area n n us h in
     ap (take (tail + 1)) (set-area us (n + tail) v n n tail refl l)
-    ∙ rw add-one (take-suc-set (queueIn n us) tail v (omega arith))
+    ∙ rw add-one (take-suc-set (queue_in n us) tail v (omega arith))
 
-pub queue-stored : (n : ℕ) (us : List ℕ) (fs : List Float) (tail v : ℕ) → tail < n → FoundKept n us fs (set us (n + tail) v) fs
-queue-stored n us fs tail v h =
+pub queue_stored : (n : ℕ) (us : List ℕ) (fs : List Float) (tail v : ℕ) → tail < n → FoundKept n us fs (set us (n + tail) v) fs
+queue_stored n us fs tail v h =
     record {
       seen = take-set-le n us (n + tail) v (omega arith);
       nodes = set-low us (n + tail) v (found_at n) 64 (omega arith);

@@ -10,17 +10,17 @@ use lib.Ieee.{Float, binary32, to_bits, lt}
 use Rattle.rules.specs.declared.Distance.{Distance}
 use Rattle.rules.specs.declared.Distance.TheVariants.{Fit, Unfit}
 use Rattle.rules.specs.declared.Neighbor.{Neighbor}
-use Rattle.rules.specs.Distance.{before, zero32, lanes_of, queryApart}
+use Rattle.rules.specs.Distance.{before, zero32, lanes_of, query_apart}
 use Rattle.rules.specs.Lists.{neighbor, insert}
-use Rattle.rules.specs.Search.{Going, on, unfitAt, Found, Taken, and_then, worksOut, mark, isSeen, visit, visits, farthest, tooFar, joins, takeThese}
+use Rattle.rules.specs.Search.{Going, on, unfit_at, Found, Taken, and_then, works_out, mark, is_seen, visit, visits, farthest, too_far, joins, take_these}
 use Rattle.neighbor.specs.Holdable.{Holdable}
-use Rattle.neighbor.proofs.Bits.{bits-lt, bits-eq, holdable-distance}
+use Rattle.neighbor.proofs.Bits.{bits-lt, bits-eq, holdable_distance}
 use Rattle.neighbor.proofs.Order.{irreflexive}
 use Rattle.lists.specs.All.{All}
 use Rattle.lists.specs.Ascending.{AllHoldable, Ascending}
-use Rattle.lists.proofs.Laws.{length-insert, insert-is-perm, holdable-at, holdable-insert, holdable-take, ascending-insert, ascending-take, none-at}
-use Rattle.lists.proofs.Plain.{all-at, all_take, all-perm}
-use Rattle.expand.specs.Steps.{worksNear, visitNear, visitsNear}
+use Rattle.lists.proofs.Laws.{length-insert, insert-is_perm, holdable_at, holdable_insert, holdable_take, ascending-insert, ascending-take, none_at}
+use Rattle.lists.proofs.Plain.{all-at, all_take, all_perm}
+use Rattle.expand.specs.Steps.{works_near, visit_near, visits_near}
 
 -- ---- near and beyond
 
@@ -56,11 +56,11 @@ module _ (far : Float) (held : Holdable far) (e g : Neighbor) (near : Near far e
 
 module _ (far : Float) (held : Holdable far) where
   -- a near entry goes among the near ones, and one beyond among those beyond
-  insert-near : (e : Neighbor) (fs gs : List Neighbor) → Near far e → All (Beyond far) gs → insert e (fs ++ gs) ≡ insert e fs ++ gs
+  insert_near : (e : Neighbor) (fs gs : List Neighbor) → Near far e → All (Beyond far) gs → insert e (fs ++ gs) ≡ insert e fs ++ gs
   unfolding insert
-  insert-near e [] [] n G = refl
-  insert-near e [] (g ∷ gs) n G = rw (goes_before far held e g n G.0)
-  insert-near e (f ∷ fs) gs n G = go (before e f) (insert-near e fs gs n G)
+  insert_near e [] [] n G = refl
+  insert_near e [] (g ∷ gs) n G = rw (goes_before far held e g n G.0)
+  insert_near e (f ∷ fs) gs n G = go (before e f) (insert_near e fs gs n G)
     where
       go : (b : Bool) → insert e (fs ++ gs) ≡ insert e fs ++ gs → cond b (e ∷ f ∷ (fs ++ gs)) (f ∷ insert e (fs ++ gs)) ≡ cond b (e ∷ f ∷ fs) (f ∷ insert e fs) ++ gs
       go true ih = refl
@@ -72,20 +72,20 @@ module _ (far : Float) (held : Holdable far) where
   insert-beyond e (f ∷ fs) gs b F = rw (not-before far held f e F.0 b) (ap (λ (l : List Neighbor). f ∷ l) (insert-beyond e fs gs b F.1))
 
   all_insert : (P : Neighbor → Type 0) (e : Neighbor) (xs : List Neighbor) → P e → All P xs → All P (insert e xs)
-  all_insert P e xs h X = all-perm P (insert-is-perm e xs) (h, X)
+  all_insert P e xs h X = all_perm P (insert-is_perm e xs) (h, X)
 
   -- ---- what is near is taken, and the first beyond ends the row
 
-  pub take-near : (fs gs : List Neighbor) (t : Taken) → All (Near far) fs → All (Beyond far) gs → All (Near far) t.best → 1 ≤ length t.best → takeThese (fs ++ gs) t ≡ takeThese fs t
-  unfolding takeThese farthest joins
-  take-near [] [] t F G B h = refl
-  take-near [] (g ∷ gs) t F G B h = rw (too_far g t G.0 B h)
+  pub take_near : (fs gs : List Neighbor) (t : Taken) → All (Near far) fs → All (Beyond far) gs → All (Near far) t.best → 1 ≤ length t.best → take_these (fs ++ gs) t ≡ take_these fs t
+  unfolding take_these farthest joins
+  take_near [] [] t F G B h = refl
+  take_near [] (g ∷ gs) t F G B h = rw (too_far_lem g t G.0 B h)
     where
-      too_far : (g : Neighbor) (t : Taken) → Beyond far g → All (Near far) t.best → 1 ≤ length t.best → tooFar g t.best ≡ true
-      too_far g t b B h =
+      too_far_lem : (g : Neighbor) (t : Taken) → Beyond far g → All (Near far) t.best → 1 ≤ length t.best → too_far g t.best ≡ true
+      too_far_lem g t b B h =
           less far held (get_or t.best (length t.best - 1) (neighbor 0 zero32)) g
           (all-at (Near far) t.best (length t.best - 1) (neighbor 0 zero32) B (omega arith)) b
-  take-near (f ∷ fs) gs t F G B h = ap (cond (tooFar f t.best) t) (take-near fs gs (joins f t) F.1 G (nearer f t F.0 B) (some f t))
+  take_near (f ∷ fs) gs t F G B h = ap (cond (too_far f t.best) t) (take_near fs gs (joins f t) F.1 G (nearer f t F.0 B) (some f t))
     where
       nearer : (f : Neighbor) (t : Taken) → Near far f → All (Near far) t.best → All (Near far) (joins f t).best
       nearer f t n B = all_insert (Near far) f (take (length t.best - 1) t.best) n (all_take (Near far) (length t.best - 1) t.best B)
@@ -104,33 +104,33 @@ pub record Related (far : Float) (f g : Found) : Type 0 where
 
 unfoldable pub RelatedGoing : Float → Going Found → Going Found → Type 0
 RelatedGoing far (on f) (on g) = Related far f g
-RelatedGoing far (on f) (unfitAt v) = ⊥
-RelatedGoing far (unfitAt u) (on g) = ⊥
-RelatedGoing far (unfitAt u) (unfitAt v) = u ≡ v
+RelatedGoing far (on f) (unfit_at v) = ⊥
+RelatedGoing far (unfit_at u) (on g) = ⊥
+RelatedGoing far (unfit_at u) (unfit_at v) = u ≡ v
 
-pub related-on : (far : Float) (x : Going Found) (g : Found) → RelatedGoing far x (on g) → (f : Found) × (x ≡ on f) × Related far f g
+pub related_on : (far : Float) (x : Going Found) (g : Found) → RelatedGoing far x (on g) → (f : Found) × (x ≡ on f) × Related far f g
 unfolding RelatedGoing
-related-on far (on f) g r = (f, refl, r)
-related-on far (unfitAt u) g r = absurd r
+related_on far (on f) g r = (f, refl, r)
+related_on far (unfit_at u) g r = absurd r
 
-pub related-unfit : (far : Float) (x : Going Found) (v : ℕ) → RelatedGoing far x (unfitAt v) → x ≡ unfitAt v
+pub related_unfit : (far : Float) (x : Going Found) (v : ℕ) → RelatedGoing far x (unfit_at v) → x ≡ unfit_at v
 unfolding RelatedGoing
-related-unfit far (on f) v r = absurd r
-related-unfit far (unfitAt u) v r = ap unfitAt r
+related_unfit far (on f) v r = absurd r
+related_unfit far (unfit_at u) v r = ap unfit_at r
 
 -- an answer that a distance can give
 abbrev pub Answers : (ℕ → Distance) → Type 0
 Answers apart = (v : ℕ) (x : Float) → apart v ≡ Fit x → Holdable x
 
-pub query-answers : (lanes : List Float) (dimension : ℕ) (query : List Float) → Answers (queryApart lanes dimension query)
-unfolding queryApart
-query-answers lanes dimension query v x e = holdable-distance (lanes_of lanes dimension v) query x e
+pub query-answers : (lanes : List Float) (dimension : ℕ) (query : List Float) → Answers (query_apart lanes dimension query)
+unfolding query_apart
+query-answers lanes dimension query v x e = holdable_distance (lanes_of lanes dimension v) query x e
 
 module _ (far : Float) (held : Holdable far) (apart : ℕ → Distance) (fine : Answers apart) where
-  related-more : (v : ℕ) (x : Float) (b : Bool) (f g : Found) → lt far x ≡ b → Holdable x → Related far f g
+  related_more : (v : ℕ) (x : Float) (b : Bool) (f g : Found) → lt far x ≡ b → Holdable x → Related far f g
       → Related far (record { seen = mark v f.seen; entries = insert (neighbor v x) f.entries; worked = suc f.worked })
       (record { seen = mark v g.seen; entries = cond b g.entries (insert (neighbor v x) g.entries); worked = 0 })
-  related-more v x true f g e h r =
+  related_more v x true f g e h r =
       record {
         beyond = insert (neighbor v x) r.beyond;
         seen = ap (mark v) r.seen;
@@ -138,40 +138,40 @@ module _ (far : Float) (held : Holdable far) (apart : ℕ → Distance) (fine : 
         near = r.near;
         out = all_insert far held (Beyond far) (neighbor v x) r.beyond (h, e) r.out;
       }
-  related-more v x false f g e h r =
+  related_more v x false f g e h r =
       record {
         beyond = r.beyond;
         seen = ap (mark v) r.seen;
-        whole = ap (insert (neighbor v x)) r.whole ∙ insert-near far held (neighbor v x) g.entries r.beyond (h, e) r.out;
+        whole = ap (insert (neighbor v x)) r.whole ∙ insert_near far held (neighbor v x) g.entries r.beyond (h, e) r.out;
         near = all_insert far held (Near far) (neighbor v x) g.entries (h, e) r.near;
         out = r.out;
       }
 
-  related-visit : (v : ℕ) (f g : Found) → Related far f g → RelatedGoing far (visit apart v f) (visitNear far apart v g)
-  unfolding visit visitNear worksOut worksNear and_then RelatedGoing
-  related-visit v f g r = subst (λ (l : List ℕ). RelatedGoing far (visit apart v f) (cond (isSeen v l) (on g) (rest g))) r.seen (go (isSeen v f.seen) (apart v) refl)
+  related_visit : (v : ℕ) (f g : Found) → Related far f g → RelatedGoing far (visit apart v f) (visit_near far apart v g)
+  unfolding visit visit_near works_out works_near and_then RelatedGoing
+  related_visit v f g r = subst (λ (l : List ℕ). RelatedGoing far (visit apart v f) (cond (is_seen v l) (on g) (rest g))) r.seen (go (is_seen v f.seen) (apart v) refl)
     where
       rest : Found → Going Found
-      rest g = and_then (worksNear far v g.entries (apart v)) (λ (es : List Neighbor). on (record { seen = mark v g.seen; entries = es; worked = 0 }))
+      rest g = and_then (works_near far v g.entries (apart v)) (λ (es : List Neighbor). on (record { seen = mark v g.seen; entries = es; worked = 0 }))
 
       go : (b : Bool) (d : Distance) → apart v ≡ d
-          → RelatedGoing far (cond b (on f) (and_then (worksOut apart v f.entries d) (λ (es : List Neighbor). on (record { seen = mark v f.seen; entries = es; worked = suc f.worked }))))
-          (cond b (on g) (and_then (worksNear far v g.entries d) (λ (es : List Neighbor). on (record { seen = mark v g.seen; entries = es; worked = 0 }))))
+          → RelatedGoing far (cond b (on f) (and_then (works_out apart v f.entries d) (λ (es : List Neighbor). on (record { seen = mark v f.seen; entries = es; worked = suc f.worked }))))
+          (cond b (on g) (and_then (works_near far v g.entries d) (λ (es : List Neighbor). on (record { seen = mark v g.seen; entries = es; worked = 0 }))))
       go true d e = r
-      go false (Fit x) e = related-more v x (lt far x) f g refl (fine v x e) r
+      go false (Fit x) e = related_more v x (lt far x) f g refl (fine v x e) r
       go false Unfit e = refl
 
-  pub related-visits : (vs : List ℕ) (f g : Found) → Related far f g → RelatedGoing far (visits apart vs f) (visitsNear far apart vs g)
-  unfolding visits visitsNear and_then RelatedGoing
-  related-visits [] f g r = r
-  related-visits (v ∷ vs) f g r = go (visit apart v f) (visitNear far apart v g) (related-visit v f g r) (λ (a b : Found) (s : Related far a b). related-visits vs a b s)
+  pub related_visits : (vs : List ℕ) (f g : Found) → Related far f g → RelatedGoing far (visits apart vs f) (visits_near far apart vs g)
+  unfolding visits visits_near and_then RelatedGoing
+  related_visits [] f g r = r
+  related_visits (v ∷ vs) f g r = go (visit apart v f) (visit_near far apart v g) (related_visit v f g r) (λ (a b : Found) (s : Related far a b). related_visits vs a b s)
     where
-      go : (x y : Going Found) → RelatedGoing far x y → ((a b : Found) → Related far a b → RelatedGoing far (visits apart vs a) (visitsNear far apart vs b))
-          → RelatedGoing far (and_then x (visits apart vs)) (and_then y (visitsNear far apart vs))
+      go : (x y : Going Found) → RelatedGoing far x y → ((a b : Found) → Related far a b → RelatedGoing far (visits apart vs a) (visits_near far apart vs b))
+          → RelatedGoing far (and_then x (visits apart vs)) (and_then y (visits_near far apart vs))
       go (on a) (on b) s ih = ih a b s
-      go (on a) (unfitAt u) s ih = absurd s
-      go (unfitAt u) (on b) s ih = absurd s
-      go (unfitAt u) (unfitAt w) s ih = s
+      go (on a) (unfit_at u) s ih = absurd s
+      go (unfit_at u) (on b) s ih = absurd s
+      go (unfit_at u) (unfit_at w) s ih = s
 
 -- ---- the best set: ascending, so that none is beyond the last, and it stays so
 
@@ -186,35 +186,35 @@ not_beyond y (x ∷ xs) H B = ((H.0, or_left (lt y.distance x.distance) _ B.0), 
 
 behind-last : (x : Neighbor) (xs : List Neighbor) (z : Neighbor) → AllHoldable (x ∷ xs) → Ascending (x ∷ xs) → All (λ (w : Neighbor). before (get_or (x ∷ xs) (length xs) z) w ≡ false) (x ∷ xs)
 behind-last x [] z H S = (irreflexive x H.0, tt)
-behind-last x (y ∷ ys) z H S = (none-at x (y ∷ ys) (length ys) z S.0 (omega arith), behind-last y ys z H.1 S.1)
+behind-last x (y ∷ ys) z H S = (none_at x (y ∷ ys) (length ys) z S.0 (omega arith), behind-last y ys z H.1 S.1)
 
-pub best-near : (xs : List Neighbor) → 1 ≤ length xs → AllHoldable xs → Ascending xs → All (Near (farthest xs)) xs
+pub best_near : (xs : List Neighbor) → 1 ≤ length xs → AllHoldable xs → Ascending xs → All (Near (farthest xs)) xs
 unfolding farthest
-best-near [] h H S = absurd (omega arith)
-best-near (x ∷ xs) h H S =
+best_near [] h H S = absurd (omega arith)
+best_near (x ∷ xs) h H S =
     let e : suc (length xs) - 1 ≡ length xs = omega arith in
     subst (λ (k : ℕ). All (Near (get_or (x ∷ xs) k (neighbor 0 zero32)).distance) (x ∷ xs)) (sym e)
     (not_beyond (get_or (x ∷ xs) (length xs) (neighbor 0 zero32)) (x ∷ xs) H (behind-last x xs (neighbor 0 zero32) H S))
 
 pub farthest-held : (xs : List Neighbor) → 1 ≤ length xs → AllHoldable xs → Holdable (farthest xs)
 unfolding farthest
-farthest-held xs h H = holdable-at xs (length xs - 1) (neighbor 0 zero32) H (omega arith)
+farthest-held xs h H = holdable_at xs (length xs - 1) (neighbor 0 zero32) H (omega arith)
 
 pub record Rising (xs : List Neighbor) : Type 0 where
   pub held : AllHoldable xs
   pub rising : Ascending xs
 
-pub rising-these : (far : Float) (es : List Neighbor) (t : Taken) → All (Near far) es → Rising t.best → Rising (takeThese es t).best
-unfolding takeThese joins
-rising-these far [] t E r = r
-rising-these far (e ∷ es) t E r = go (tooFar e t.best) (rising-these far es (joins e t) E.1 (joined e t E.0.0 r))
+pub rising_these : (far : Float) (es : List Neighbor) (t : Taken) → All (Near far) es → Rising t.best → Rising (take_these es t).best
+unfolding take_these joins
+rising_these far [] t E r = r
+rising_these far (e ∷ es) t E r = go (too_far e t.best) (rising_these far es (joins e t) E.1 (joined e t E.0.0 r))
   where
     joined : (e : Neighbor) (t : Taken) → Holdable e.distance → Rising t.best → Rising (joins e t).best
     joined e t h r =
         let xs = take (length t.best - 1) t.best in
-        let H = holdable-take (length t.best - 1) t.best r.held in
-        record { held = holdable-insert e xs h H; rising = ascending-insert e xs h H (ascending-take (length t.best - 1) t.best r.rising) }
+        let H = holdable_take (length t.best - 1) t.best r.held in
+        record { held = holdable_insert e xs h H; rising = ascending-insert e xs h H (ascending-take (length t.best - 1) t.best r.rising) }
 
-    go : (b : Bool) → Rising (takeThese es (joins e t)).best → Rising (cond b t (takeThese es (joins e t))).best
+    go : (b : Bool) → Rising (take_these es (joins e t)).best → Rising (cond b t (take_these es (joins e t))).best
     go true q = r
     go false q = q

@@ -1,7 +1,7 @@
 // A node of a search's walk expanded, over areas of lent scratch: flags, queue, best set, and the entries found in its row.
 ghost use Rattle.std.specs.Prelude.{[], ◌∷◌, ◌+◌, ◌≤◌, ◌<◌, length};
-ghost use Rattle.rules.specs.Distance.{queryApart};
-ghost use Rattle.rules.specs.Rows.{liveNodes};
+ghost use Rattle.rules.specs.Distance.{query_apart};
+ghost use Rattle.rules.specs.Rows.{live_nodes};
 ghost use Rattle.expand.specs.Areas.{Room, BestSound};
 ghost use Rattle.expand.specs.Steps.{Lanes, WorkedOut, Visited, Joined, TakenIn};
 ghost use Rattle.expand.specs.Queue.{Rows, QueueSound, Expanded};
@@ -30,7 +30,7 @@ pub fn work_out(
     requires lanes { Lanes lanes.now dimension n query.now }
     requires room { Room n words.old floats.old }
     requires v_lt_n { (v.0 < n) × (len < 64) }
-    ensures { WorkedOut far (queryApart lanes.now dimension query.now) n v.0 len words.old floats.old words.new floats.new result }
+    ensures { WorkedOut far (query_apart lanes.now dimension query.now) n v.0 len words.old floats.old words.new floats.new result }
 {
     let d = metrics::query_distance(lanes, dimension, query, v);
     match d {
@@ -66,7 +66,7 @@ fn visit(
     requires lanes { Lanes lanes.now dimension n query.now }
     requires room { Room n words.old floats.old }
     requires v_lt_n { (v.0 < n) × (len < 64) }
-    ensures { Visited far (queryApart lanes.now dimension query.now) n (v.0 ∷ []) len 1 words.old floats.old words.new floats.new result }
+    ensures { Visited far (query_apart lanes.now dimension query.now) n (v.0 ∷ []) len 1 words.old floats.old words.new floats.new result }
 {
     let at = v.0 as usize;
     if words[at] == 1 {
@@ -90,7 +90,7 @@ fn visit_row(
     requires lanes { Lanes lanes.now dimension n query.now }
     requires room { Room n words.old floats.old }
     requires row_len_bound { length row.now ≤ 64 }
-    ensures { Visited far (queryApart lanes.now dimension query.now) n (liveNodes n row.now) 0 64 words.old floats.old words.new floats.new result }
+    ensures { Visited far (query_apart lanes.now dimension query.now) n (live_nodes n row.now) 0 64 words.old floats.old words.new floats.new result }
 {
     let mut len: usize = 0;
     let mut j: usize = 0;
@@ -193,7 +193,7 @@ pub fn expand(
     requires queue_sound { QueueSound n words.old tail }
     requires best_sound { BestSound n words.old floats.old m }
     requires le_m { (1 ≤ m) × (m ≤ 64) × (takings < tail) }
-    ensures { Expanded (queryApart lanes.now dimension query.now) n graph.now index_size m takings tail words.old floats.old words.new floats.new result }
+    ensures { Expanded (query_apart lanes.now dimension query.now) n graph.now index_size m takings tail words.old floats.old words.new floats.new result }
 {
     let at = n + takings;
     let q = words[at] as usize;

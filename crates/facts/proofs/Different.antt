@@ -7,10 +7,10 @@ use lib.Dec.{eqb}
 use borrow.Author.Tests.{eqb-true, eqb-false, eq-eqb, ne_eqb, not-true}
 use Rattle.rules.specs.declared.Neighbor.{Neighbor}
 use Rattle.rules.specs.Loops.{has}
-use Rattle.rules.specs.Lists.{node_of, nodesOf}
+use Rattle.rules.specs.Lists.{node_of, nodes_of}
 use Rattle.lists.specs.All.{All}
 use Rattle.lists.specs.Ascending.{Perm, same, next, exchange, chain}
-use Rattle.lists.proofs.Perm.{perm-first, perm-append}
+use Rattle.lists.proofs.Perm.{perm_first, perm_append}
 use Rattle.rules.proofs.Tests.{both, together}
 use Rattle.facts.specs.Different.{different}
 
@@ -34,12 +34,12 @@ module _ (v : ℕ) where
   has-append [] ys = refl
   has-append (x ∷ xs) ys = ap (λ (b : Bool). eqb v x || b) (has-append xs ys) ∙ sym (or_assoc (eqb v x) (has v xs) (has v ys))
 
-  pub has-perm : {xs ys : List ℕ} → Perm xs ys → has v xs ≡ has v ys
+  pub has_perm : {xs ys : List ℕ} → Perm xs ys → has v xs ≡ has v ys
   unfolding has
-  has-perm same = refl
-  has-perm (next {x = x} p) = ap (λ (b : Bool). eqb v x || b) (has-perm p)
-  has-perm (exchange {x = x} {y = y} {xs = zs}) = or-exchange (eqb v x) (eqb v y) (has v zs)
-  has-perm (chain p q) = has-perm p ∙ has-perm q
+  has_perm same = refl
+  has_perm (next {x = x} p) = ap (λ (b : Bool). eqb v x || b) (has_perm p)
+  has_perm (exchange {x = x} {y = y} {xs = zs}) = or-exchange (eqb v x) (eqb v y) (has v zs)
+  has_perm (chain p q) = has_perm p ∙ has_perm q
 
   -- what is a fact of each is one of a node that is held
   pub has-each : (P : ℕ → Type 0) (xs : List ℕ) → All P xs → has v xs ≡ true → P v
@@ -51,10 +51,10 @@ module _ (v : ℕ) where
       go true e g ih = subst P (sym (eqb-true v x e)) X.0
       go false e g ih = ih g
 
-  pub has-none : (xs : List ℕ) → All (λ (x : ℕ). v ≡ x → ⊥) xs → has v xs ≡ false
+  pub has_none : (xs : List ℕ) → All (λ (x : ℕ). v ≡ x → ⊥) xs → has v xs ≡ false
   unfolding has
-  has-none [] X = refl
-  has-none (x ∷ xs) X = rw (ne_eqb v x X.0) (has-none xs X.1)
+  has_none [] X = refl
+  has_none (x ∷ xs) X = rw (ne_eqb v x X.0) (has_none xs X.1)
 
 -- ---- no node twice
 
@@ -65,15 +65,15 @@ swap-test false true false c = refl
 swap-test false false true c = refl
 swap-test false false false c = refl
 
-pub different-perm : {xs ys : List ℕ} → Perm xs ys → different xs ≡ different ys
+pub different_perm : {xs ys : List ℕ} → Perm xs ys → different xs ≡ different ys
 unfolding different has
-different-perm same = refl
-different-perm (next {x = x} {xs = xs} {ys = ys} p) =
-    ap (λ (b : Bool). not b && different xs) (has-perm x p) ∙ ap (λ (b : Bool). not (has x ys) && b) (different-perm p)
-different-perm (exchange {x = x} {y = y} {xs = zs}) =
+different_perm same = refl
+different_perm (next {x = x} {xs = xs} {ys = ys} p) =
+    ap (λ (b : Bool). not b && different xs) (has_perm x p) ∙ ap (λ (b : Bool). not (has x ys) && b) (different_perm p)
+different_perm (exchange {x = x} {y = y} {xs = zs}) =
     swap-test (eqb x y) (has x zs) (has y zs) (different zs)
     ∙ ap (λ (b : Bool). not (b || has y zs) && (not (has x zs) && different zs)) (eqb_swap x y)
-different-perm (chain p q) = different-perm p ∙ different-perm q
+different_perm (chain p q) = different_perm p ∙ different_perm q
 
 module _ (x : ℕ) (xs : List ℕ) where
   pub different-new : has x xs ≡ false → different xs ≡ true → different (x ∷ xs) ≡ true
@@ -90,11 +90,11 @@ module _ (x : ℕ) (xs : List ℕ) where
 
   -- a new node behind
   pub different-last : has x xs ≡ false → different xs ≡ true → different (xs ++ (x ∷ [])) ≡ true
-  different-last h k = sym (different-perm (perm-append (x ∷ []) xs)) ∙ different-new h k
+  different-last h k = sym (different_perm (perm_append (x ∷ []) xs)) ∙ different-new h k
 
 -- one left out
-pub different-without : (xs : List ℕ) (y : ℕ) (ys : List ℕ) → different (xs ++ (y ∷ ys)) ≡ true → different (xs ++ ys) ≡ true
-different-without xs y ys h = different-later y (xs ++ ys) (different-perm (perm-first y xs ys) ∙ h)
+pub different_without : (xs : List ℕ) (y : ℕ) (ys : List ℕ) → different (xs ++ (y ∷ ys)) ≡ true → different (xs ++ ys) ≡ true
+different_without xs y ys h = different-later y (xs ++ ys) (different_perm (perm_first y xs ys) ∙ h)
 
 -- the front
 pub different-front : (xs ys : List ℕ) → different (xs ++ ys) ≡ true → different xs ≡ true
@@ -108,11 +108,11 @@ different-front (x ∷ xs) ys h = different-new x xs (go (has x xs) refl) (diffe
 
 -- ---- the nodes of entries
 
-pub nodes-append : (xs ys : List Neighbor) → nodesOf (xs ++ ys) ≡ nodesOf xs ++ nodesOf ys
-unfolding nodesOf
+pub nodes-append : (xs ys : List Neighbor) → nodes_of (xs ++ ys) ≡ nodes_of xs ++ nodes_of ys
+unfolding nodes_of
 nodes-append xs ys = map-append node_of xs ys
 
-pub perm-reverse : (xs : List ℕ) → Perm xs (reverse xs)
-perm-reverse [] = same
-perm-reverse (x ∷ xs) =
-    subst (λ (l : List ℕ). Perm (x ∷ xs) l) (sym (reverse-cons x xs)) (chain (next (perm-reverse xs)) (perm-append (x ∷ []) (reverse xs)))
+pub perm_reverse : (xs : List ℕ) → Perm xs (reverse xs)
+perm_reverse [] = same
+perm_reverse (x ∷ xs) =
+    subst (λ (l : List ℕ). Perm (x ∷ xs) l) (sym (reverse-cons x xs)) (chain (next (perm_reverse xs)) (perm_append (x ∷ []) (reverse xs)))

@@ -10,39 +10,39 @@ use lib.Ieee.{Float}
 use borrow.Author.Tests.{ltb-true, ltb-false, eqb-true}
 use Rattle.rules.specs.declared.Neighbor.{Neighbor}
 use Rattle.rules.specs.Loops.{through, any_of, has}
-use Rattle.rules.specs.Lists.{node_of, nodesOf, sort}
-use Rattle.rules.specs.Rows.{emptySlot, live}
+use Rattle.rules.specs.Lists.{node_of, nodes_of, sort}
+use Rattle.rules.specs.Rows.{empty_slot, live}
 use Rattle.rules.specs.Calls.{BuildSizes}
-use Rattle.rules.specs.Build.{Between, entry, exactList, taking, hop, twoHops, candidates, occludes, keep, choose, row_of, pruned, markNext, rewritten, atFull, offered}
+use Rattle.rules.specs.Build.{Between, entry, exact_list, taking, hop, two_hops, candidates, occludes, keep, choose, row_of, pruned, mark_next, rewritten, at_full, offered}
 use Rattle.lists.specs.All.{All}
-use Rattle.lists.proofs.Perm.{perm-map}
-use Rattle.lists.proofs.Laws.{sort-is-perm}
-use Rattle.descent_kept.proofs.Lists.{through-keeps}
-use Rattle.offers.proofs.Laws.{live-full}
+use Rattle.lists.proofs.Perm.{perm_map}
+use Rattle.lists.proofs.Laws.{sort-is_perm}
+use Rattle.descent_kept.proofs.Lists.{through_keeps}
+use Rattle.offers.proofs.Laws.{live_full}
 use Rattle.facts.specs.Different.{different}
-use Rattle.facts.proofs.Different.{different-perm, different-last, different-without, different-front, nodes-append}
+use Rattle.facts.proofs.Different.{different_perm, different-last, different_without, different-front, nodes-append}
 use Rattle.facts.proofs.Exact.{nodes-entries}
-use Rattle.facts.proofs.Parts.{live-marked, live-empty, live-append, live-front}
+use Rattle.facts.proofs.Parts.{live-marked, live_empty, live-append, live-front}
 
 abbrev pub Once : List Neighbor → Type 0
-Once es = different (nodesOf es) ≡ true
+Once es = different (nodes_of es) ≡ true
 
 -- ---- entries one behind the other
 
 once-front : (xs ys : List Neighbor) → Once (xs ++ ys) → Once xs
-once-front xs ys h = different-front (nodesOf xs) (nodesOf ys) (ap different (sym (nodes-append xs ys)) ∙ h)
+once-front xs ys h = different-front (nodes_of xs) (nodes_of ys) (ap different (sym (nodes-append xs ys)) ∙ h)
 
 once-live : (es : List Neighbor) → Once es → Once (live es)
 once-live es h =
     subst Once (sym (live-front es)) (once-front (take (length (live es)) es) (drop (length (live es)) es) (subst Once (sym (take-append-drop (length (live es)) es)) h))
 
-once_last : (es : List Neighbor) (e : Neighbor) → has (node_of e) (nodesOf es) ≡ false → Once es → Once (es ++ (e ∷ []))
-unfolding nodesOf
-once_last es e h k = ap different (nodes-append es (e ∷ [])) ∙ different-last (node_of e) (nodesOf es) h k
+once_last : (es : List Neighbor) (e : Neighbor) → has (node_of e) (nodes_of es) ≡ false → Once es → Once (es ++ (e ∷ []))
+unfolding nodes_of
+once_last es e h k = ap different (nodes-append es (e ∷ [])) ∙ different-last (node_of e) (nodes_of es) h k
 
 once-sort : (es : List Neighbor) → Once es → Once (sort es)
-unfolding nodesOf
-once-sort es h = sym (different-perm (perm-map node_of (sort-is-perm es))) ∙ h
+unfolding nodes_of
+once-sort es h = sym (different_perm (perm_map node_of (sort-is_perm es))) ∙ h
 
 -- ---- a fact that every turn keeps, whatever its turn is for
 
@@ -52,7 +52,7 @@ module _ {A S : Type 0} (P : S → Type 0) (f : A → S → S) (k : (x : A) (s :
   units (x ∷ xs) = (tt, units xs)
 
   keeps : (xs : List A) (s : S) → P s → P (through f xs s)
-  keeps xs s p = through-keeps P (λ (x : A). Unit {0}) f (λ (x : A) (s : S) (u : Unit {0}) (p : P s). k x s p) xs s (units xs) p
+  keeps xs s p = through_keeps P (λ (x : A). Unit {0}) f (λ (x : A) (s : S) (u : Unit {0}) (p : P s). k x s p) xs s (units xs) p
 
 -- ---- step 2: what is taken
 
@@ -77,9 +77,9 @@ module _ (lists : ℕ → List ℕ) (limit q : ℕ) where
       go false = apart-taking m taken h
 
   different-candidates : Apart (candidates lists limit q)
-  unfolding candidates twoHops different
+  unfolding candidates two_hops different
   different-candidates =
-      keeps Apart taking apart-taking (lists q) (twoHops lists limit q)
+      keeps Apart taking apart-taking (lists q) (two_hops lists limit q)
       (keeps Apart (λ (member : ℕ) (taken : List ℕ). through (hop limit q) (lists member) taken)
       (λ (m : ℕ) (taken : List ℕ) (h : Apart taken). keeps Apart (hop limit q) apart-hop (lists m) taken h) (lists q) [] refl)
 
@@ -87,7 +87,7 @@ module _ (lists : ℕ → List ℕ) (limit q : ℕ) where
 
 module _ (f : Neighbor → Neighbor → Bool) (k : ℕ) where
   once-through : (es kept : List Neighbor) → Once (kept ++ es) → Once (through (keep f k) es kept)
-  unfolding through keep nodesOf
+  unfolding through keep nodes_of
   once-through [] kept h = subst Once (append-nil kept) h
   once-through (e ∷ es) kept h = once-through es (keep f k e kept) (go (ltb (length kept) k && not (any_of (f e) kept)))
     where
@@ -95,7 +95,7 @@ module _ (f : Neighbor → Neighbor → Bool) (k : ℕ) where
       go true = subst Once (sym (append_assoc kept (e ∷ []) es)) h
       go false =
           ap different (nodes-append kept es)
-          ∙ different-without (nodesOf kept) (node_of e) (nodesOf es) (ap different (sym (nodes-append kept (e ∷ es))) ∙ h)
+          ∙ different_without (nodes_of kept) (node_of e) (nodes_of es) (ap different (sym (nodes-append kept (e ∷ es))) ∙ h)
 
   once-choose : (es : List Neighbor) → Once es → Once (choose f k es)
   unfolding choose
@@ -117,30 +117,30 @@ module _ (f : Neighbor → Neighbor → Bool) (k : ℕ) where
 -- ---- steps 2 to 4
 
 module _ (d : Between) (n : ℕ) (p : BuildSizes) where
-  pub length-pruned : (q : ℕ) → length (pruned d n p q) ≡ p.index-size
+  pub length-pruned : (q : ℕ) → length (pruned d n p q) ≡ p.index_size
   unfolding pruned row_of
   length-pruned q =
-      let kept = choose (occludes d p.threshold false) p.index-size (sort (map (entry d q) (candidates (exactList d n p.init-k) p.neighbor-neighbor-size q))) in
-      let few = few-choose (occludes d p.threshold false) p.index-size (sort (map (entry d q) (candidates (exactList d n p.init-k) p.neighbor-neighbor-size q))) in
-      let m = length-replicate (p.index-size - length kept) (emptySlot n) in
-      length-append kept (replicate (p.index-size - length kept) (emptySlot n)) ∙ omega arith
+      let kept = choose (occludes d p.threshold false) p.index_size (sort (map (entry d q) (candidates (exact_list d n p.init_k) p.neighbor_neighbor_size q))) in
+      let few = few-choose (occludes d p.threshold false) p.index_size (sort (map (entry d q) (candidates (exact_list d n p.init_k) p.neighbor_neighbor_size q))) in
+      let m = length-replicate (p.index_size - length kept) (empty_slot n) in
+      length-append kept (replicate (p.index_size - length kept) (empty_slot n)) ∙ omega arith
 
   pub once-pruned : (q : ℕ) → Once (live (pruned d n p q))
   unfolding pruned row_of
   once-pruned q =
-      let cs = candidates (exactList d n p.init-k) p.neighbor-neighbor-size q in
+      let cs = candidates (exact_list d n p.init_k) p.neighbor_neighbor_size q in
       let es = map (entry d q) cs in
       let f = occludes d p.threshold false in
-      let kept = choose f p.index-size (sort es) in
-      let first : Once es = ap different (nodes-entries d q cs) ∙ different-candidates (exactList d n p.init-k) p.neighbor-neighbor-size q in
-      subst Once (sym (live-append kept (replicate (p.index-size - length kept) (emptySlot n)) (live-empty n (p.index-size - length kept))))
-      (once-live kept (once-choose f p.index-size (sort es) (once-sort es first)))
+      let kept = choose f p.index_size (sort es) in
+      let first : Once es = ap different (nodes-entries d q cs) ∙ different-candidates (exact_list d n p.init_k) p.neighbor_neighbor_size q in
+      subst Once (sym (live-append kept (replicate (p.index_size - length kept) (empty_slot n)) (live_empty n (p.index_size - length kept))))
+      (once-live kept (once-choose f p.index_size (sort es) (once-sort es first)))
 
 -- ---- an offer to a row
 
 -- "write the chosen from the row's start, and mark the next slot, if any, empty in distance only"
-length_marked : (es : List Neighbor) → length (markNext es) ≡ length es
-unfolding markNext
+length_marked : (es : List Neighbor) → length (mark_next es) ≡ length es
+unfolding mark_next
 length_marked [] = refl
 length_marked (e ∷ es) = refl
 
@@ -150,19 +150,19 @@ module _ (chosen row : List Neighbor) where
   length-rewritten h =
       let m = length_marked (drop (length chosen) row) in
       let r = length-drop (length chosen) row in
-      length-append chosen (markNext (drop (length chosen) row)) ∙ omega arith
+      length-append chosen (mark_next (drop (length chosen) row)) ∙ omega arith
 
   once-rewritten : Once chosen → Once (live (rewritten chosen row))
   unfolding rewritten
   once-rewritten h =
-      subst Once (sym (live-append chosen (markNext (drop (length chosen) row)) (live-marked (drop (length chosen) row)))) (once-live chosen h)
+      subst Once (sym (live-append chosen (mark_next (drop (length chosen) row)) (live-marked (drop (length chosen) row)))) (once-live chosen h)
 
 module _ (d : Between) (t : Float) (w : ℕ) (e : Neighbor) (row : List Neighbor) (long : length row ≡ w) where
   abbrev pool : List Neighbor
   pool = sort (row ++ (e ∷ []))
 
   pub length-offered : length (offered d t w e row) ≡ w
-  unfolding offered atFull
+  unfolding offered at_full
   length-offered = go (ltb (length (live row)) w) (eqb (suc (length (live row))) w) refl
     where
       go : (a b : Bool) → eqb (suc (length (live row))) w ≡ b
@@ -174,8 +174,8 @@ module _ (d : Between) (t : Float) (w : ℕ) (e : Neighbor) (row : List Neighbor
       go true false q = long
       go false b q = let m = few-choose (occludes d t true) w pool in length-rewritten (choose (occludes d t true) w pool) row (omega arith) ∙ long
 
-  pub once-offered : has (node_of e) (nodesOf (live row)) ≡ false → Once (live row) → Once (live (offered d t w e row))
-  unfolding offered atFull
+  pub once-offered : has (node_of e) (nodes_of (live row)) ≡ false → Once (live row) → Once (live (offered d t w e row))
+  unfolding offered at_full
   once-offered h k = go (ltb (length (live row)) w) refl (eqb (suc (length (live row))) w)
     where
       go : (a : Bool) → ltb (length (live row)) w ≡ a → (b : Bool)
@@ -184,6 +184,6 @@ module _ (d : Between) (t : Float) (w : ℕ) (e : Neighbor) (row : List Neighbor
       go true q false = k
       go false q b =
           let l = ltb-false (length (live row)) w q in
-          let full : live row ≡ row = live-full row (omega arith) in
-          let more : Once (row ++ (e ∷ [])) = once_last row e (ap (λ (es : List Neighbor). has (node_of e) (nodesOf es)) (sym full) ∙ h) (subst Once full k) in
+          let full : live row ≡ row = live_full row (omega arith) in
+          let more : Once (row ++ (e ∷ [])) = once_last row e (ap (λ (es : List Neighbor). has (node_of e) (nodes_of es)) (sym full) ∙ h) (subst Once full k) in
           once-rewritten (choose (occludes d t true) w pool) row (once-choose (occludes d t true) w pool (once-sort (row ++ (e ∷ [])) more))

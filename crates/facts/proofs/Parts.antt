@@ -10,10 +10,10 @@ use lib.ListN.{length, take, drop, replicate, length-append, length-drop, take-a
 use lib.Seq.{length-take-le, take-append-le, drop-append-le, take_at, drop_at, drop-drop}
 use borrow.Author.Tests.{ltb-true, ltb-false}
 use Rattle.rules.specs.declared.Neighbor.{Neighbor}
-use Rattle.rules.specs.Loops.{part, putPart}
-use Rattle.rules.specs.Rows.{is_empty, emptySlot, live}
-use Rattle.rules.specs.Build.{markNext}
-use Rattle.offers.proofs.Laws.{is-empty}
+use Rattle.rules.specs.Loops.{part, put_part}
+use Rattle.rules.specs.Rows.{is_empty, empty_slot, live}
+use Rattle.rules.specs.Build.{mark_next}
+use Rattle.offers.proofs.Laws.{is_empty_lem}
 
 -- ---- part q replaced
 
@@ -21,22 +21,22 @@ module _ {A : Type 0} (w q : ℕ) (ys xs : List A) (h : length ys ≡ w) (g : q 
   front : length (take (q * w) xs) ≡ q * w
   front = length-take-le (q * w) xs (omega arith)
 
-  pub length-put : length (putPart w q ys xs) ≡ length xs
-  unfolding putPart
+  pub length-put : length (put_part w q ys xs) ≡ length xs
+  unfolding put_part
   length-put =
       let a = front in
       let b = length-drop (q * w + w) xs in
       let c = length-append ys (drop (q * w + w) xs) in
       length-append (take (q * w) xs) (ys ++ drop (q * w + w) xs) ∙ omega arith
 
-  pub part-put : part w q (putPart w q ys xs) ≡ ys
-  unfolding part putPart
+  pub part-put : part w q (put_part w q ys xs) ≡ ys
+  unfolding part put_part
   part-put =
       ap (take w) (drop_at (take (q * w) xs) (ys ++ drop (q * w + w) xs) (q * w) front) ∙ take_at ys (drop (q * w + w) xs) w h
 
   -- another part stays
-  pub part-other : (r : ℕ) → (r ≡ q → ⊥) → part w r (putPart w q ys xs) ≡ part w r xs
-  unfolding part putPart
+  pub part-other : (r : ℕ) → (r ≡ q → ⊥) → part w r (put_part w q ys xs) ≡ part w r xs
+  unfolding part put_part
   part-other r ne = go (ltb r q) refl
     where
       a : List A
@@ -72,15 +72,15 @@ module _ {A : Type 0} (w q : ℕ) (ys xs : List A) (h : length ys ≡ w) (g : q 
 
 -- ---- the live part
 
-pub live-marked : (es : List Neighbor) → live (markNext es) ≡ []
-unfolding live markNext
+pub live-marked : (es : List Neighbor) → live (mark_next es) ≡ []
+unfolding live mark_next
 live-marked [] = refl
-live-marked (e ∷ es) = rw (is-empty e.node.0)
+live-marked (e ∷ es) = rw (is_empty_lem e.node.0)
 
-pub live-empty : (n m : ℕ) → live (replicate m (emptySlot n)) ≡ []
+pub live_empty : (n m : ℕ) → live (replicate m (empty_slot n)) ≡ []
 unfolding live
-live-empty n zero = refl
-live-empty n (suc m) = rw (is-empty n)
+live_empty n zero = refl
+live_empty n (suc m) = rw (is_empty_lem n)
 
 -- what is not live adds nothing
 pub live-append : (xs ys : List Neighbor) → live ys ≡ [] → live (xs ++ ys) ≡ live xs

@@ -10,17 +10,17 @@ use lib.Ieee.{Float, binary32, to_bits}
 use Rattle.rules.specs.declared.Neighbor.{Neighbor}
 use Rattle.rules.specs.declared.SearchAnswer.TheVariants.{Found}
 use Rattle.rules.specs.Loops.{over}
-use Rattle.rules.specs.Lists.{node_of, nodesOf, bits_of}
-use Rattle.rules.specs.Rows.{graphRow}
+use Rattle.rules.specs.Lists.{node_of, nodes_of, bits_of}
+use Rattle.rules.specs.Rows.{graph_row}
 use Rattle.rules.specs.Refusals.{Row, Code, Decision, passed, refused, decide, row1, row2, row3, row4, row6, row7, row8}
-use Rattle.rules.specs.Calls.{searchRows}
-use Rattle.rules.specs.Search.{Walk, Going, on, unfitAt, searchOf}
-use Rattle.rules.specs.SearchCall.{SearchLent, SearchSaid, SearchOutcome, searchSaid, searchTable, searchZeroed, searchEnds, searchWork, searchObeys, searchRule, searchLeft}
+use Rattle.rules.specs.Calls.{search_rows}
+use Rattle.rules.specs.Search.{Walk, Going, on, unfit_at, search_of}
+use Rattle.rules.specs.SearchCall.{SearchLent, SearchSaid, SearchOutcome, search_said, search_table, search_zeroed, search_ends, search_work, search_obeys, search_rule, search_left}
 use Rattle.lists.specs.All.{All}
 use Rattle.search.specs.Search.{Ready, Searched}
 use Rattle.search.proofs.Table.{ready}
-use Rattle.facts.specs.WalksCall.{toQuery, FoundAnswer}
-use Rattle.facts.proofs.Walks.{query-answers-fit, walked-graph}
+use Rattle.facts.specs.WalksCall.{to_query, FoundAnswer}
+use Rattle.facts.proofs.Walks.{query-answers-fit, walked_graph}
 
 -- ---- a refusal has a number
 
@@ -33,9 +33,9 @@ numbered (r ∷ rs) A c e = go r.test (numbered rs A.1 c) e
     go true more e = let same : r.gives ≡ c = cc in subst (λ (d : Code). 1 ≤ d.number) same A.0
     go false more e = more e
 
-table-numbered : (l : SearchLent) → All (λ (r : Row). 1 ≤ r.gives.number) (searchTable l)
-unfolding searchTable searchRows row1 row2 row3 row4 row6 row7 row8
-table-numbered l = (omega arith, (omega arith, (omega arith, (omega arith, (omega arith, (omega arith, (omega arith, tt)))))))
+table_numbered : (l : SearchLent) → All (λ (r : Row). 1 ≤ r.gives.number) (search_table l)
+unfolding search_table search_rows row1 row2 row3 row4 row6 row7 row8
+table_numbered l = (omega arith, (omega arith, (omega arith, (omega arith, (omega arith, (omega arith, (omega arith, tt)))))))
 
 -- ---- the first m of a list, over another
 
@@ -55,51 +55,51 @@ module _ (m : ℕ) (src dst : List ℕ) (long : length src ≡ m) where
 
 module _ (l : SearchLent) where
   abbrev walking : Going Walk
-  walking = searchOf (toQuery l) (graphRow l.n l.index-size l.graph) l.n l.k l.roots
+  walking = search_of (to_query l) (graph_row l.n l.index_size l.graph) l.n l.k l.roots
 
-  found-on : (s : Walk) → Ready l → walking ≡ on s → FoundAnswer l (min l.k (length l.roots)) s.takings (searchEnds l (on s))
-  unfolding searchEnds searchZeroed nodesOf bits_of
+  found-on : (s : Walk) → Ready l → walking ≡ on s → FoundAnswer l (min l.k (length l.roots)) s.takings (search_ends l (on s))
+  unfolding search_ends search_zeroed nodes_of bits_of
   found-on s R e =
       let m = min l.k (length l.roots) in
-      let W = walked-graph (toQuery l) l.n (query-answers-fit l.lanes l.dimension l.query) l.index-size l.graph l.k l.roots R.some R.roots s e in
+      let W = walked_graph (to_query l) l.n (query-answers-fit l.lanes l.dimension l.query) l.index_size l.graph l.k l.roots R.some R.roots s e in
       let some = R.some in
       let root = R.roots.some in
-      let nodes-long : length (nodesOf s.best) ≡ m = length-map s.best node_of ∙ W.answer.long in
-      let bits-long : length (bits_of s.best) ≡ m = length-map s.best (λ (e : Neighbor). to_bits binary32 e.distance) ∙ W.answer.long in
+      let nodes_long : length (nodes_of s.best) ≡ m = length-map s.best node_of ∙ W.answer.long in
+      let bits_long : length (bits_of s.best) ≡ m = length-map s.best (λ (e : Neighbor). to_bits binary32 e.distance) ∙ W.answer.long in
       record {
         count = refl;
         some = omega arith;
         few = W.takings;
         best = s.best;
         set = W.answer;
-        nodes = over_first m (nodesOf s.best) l.result-nodes nodes-long;
-        bits = over_first m (bits_of s.best) l.result-bits bits-long;
-        nodes-rest = over-rest m (nodesOf s.best) l.result-nodes nodes-long;
-        bits-rest = over-rest m (bits_of s.best) l.result-bits bits-long;
-        roots = λ (i : ℕ) x h q near. W.nearest _ x (R.roots.below i h) (W.roots-seen i h) q near;
+        nodes = over_first m (nodes_of s.best) l.result_nodes nodes_long;
+        bits = over_first m (bits_of s.best) l.result_bits bits_long;
+        nodes_rest = over-rest m (nodes_of s.best) l.result_nodes nodes_long;
+        bits_rest = over-rest m (bits_of s.best) l.result_bits bits_long;
+        roots = λ (i : ℕ) x h q near. W.nearest _ x (R.roots.below i h) (W.roots_seen i h) q near;
       }
 
   module _ (m takings : ℕ) where
-    found-walk : (g : Going Walk) → Ready l → walking ≡ g → searchSaid (Found m takings) ≡ (searchEnds l g).said → FoundAnswer l m takings (searchEnds l g)
-    unfolding searchSaid searchEnds searchZeroed
+    found-walk : (g : Going Walk) → Ready l → walking ≡ g → search_said (Found m takings) ≡ (search_ends l g).said → FoundAnswer l m takings (search_ends l g)
+    unfolding search_said search_ends search_zeroed
     found-walk (on s) R e h =
-        subst (λ (i : ℕ). FoundAnswer l i takings (searchEnds l (on s))) (sym (ap (λ (x : SearchSaid). x.m) h))
-        (subst (λ (i : ℕ). FoundAnswer l (min l.k (length l.roots)) i (searchEnds l (on s))) (sym (ap (λ (x : SearchSaid). x.takings) h)) (found-on s R e))
-    found-walk (unfitAt v) R e h = let z : ◌≡◌ {A = ℕ} 0 10 = ap (λ (x : SearchSaid). x.code.number) h in absurd (omega arith)
+        subst (λ (i : ℕ). FoundAnswer l i takings (search_ends l (on s))) (sym (ap (λ (x : SearchSaid). x.m) h))
+        (subst (λ (i : ℕ). FoundAnswer l (min l.k (length l.roots)) i (search_ends l (on s))) (sym (ap (λ (x : SearchSaid). x.takings) h)) (found-on s R e))
+    found-walk (unfit_at v) R e h = let z : ◌≡◌ {A = ℕ} 0 10 = ap (λ (x : SearchSaid). x.code.number) h in absurd (omega arith)
 
     -- only a walk that ended answers Found
-    pub found : searchSaid (Found m takings) ≡ (searchRule l).said → FoundAnswer l m takings (searchRule l)
-    unfolding searchRule searchObeys searchWork searchSaid
-    found h = go (decide (searchTable l)) refl h
+    pub found : search_said (Found m takings) ≡ (search_rule l).said → FoundAnswer l m takings (search_rule l)
+    unfolding search_rule search_obeys search_work search_said
+    found h = go (decide (search_table l)) refl h
       where
-        go : (d : Decision) → decide (searchTable l) ≡ d → searchSaid (Found m takings) ≡ (searchObeys l d).said → FoundAnswer l m takings (searchObeys l d)
+        go : (d : Decision) → decide (search_table l) ≡ d → search_said (Found m takings) ≡ (search_obeys l d).said → FoundAnswer l m takings (search_obeys l d)
         go passed e h = found-walk walking (ready l e) refl h
         go (refused c) e h =
-            let some = numbered (searchTable l) (table-numbered l) c e in
+            let some = numbered (search_table l) (table_numbered l) c e in
             let none : 0 ≡ c.number = ap (λ (x : SearchSaid). x.code.number) h in
             absurd (omega arith)
 
     -- the same of what the entry answers and leaves
-    pub entry_found : (nodes bits su : List ℕ) (sf : List Float) → Searched l (Found m takings) nodes bits su sf → FoundAnswer l m takings (searchLeft (Found m takings) nodes bits su sf)
+    pub entry_found : (nodes bits su : List ℕ) (sf : List Float) → Searched l (Found m takings) nodes bits su sf → FoundAnswer l m takings (search_left (Found m takings) nodes bits su sf)
     entry_found nodes bits su sf S =
         subst (FoundAnswer l m takings) (sym S.whole) (found (ap (λ (o : SearchOutcome). o.said) S.whole))

@@ -10,14 +10,14 @@ use lib.ListN.{length, take, get_or}
 use lib.Seq.{take-suc, take-length}
 use Rattle.rules.specs.declared.Neighbor.{Neighbor}
 use Rattle.rules.specs.Loops.{has}
-use Rattle.rules.specs.Lists.{node_of, nodesOf, insert}
+use Rattle.rules.specs.Lists.{node_of, nodes_of, insert}
 use Rattle.lists.specs.All.{All}
-use Rattle.lists.proofs.Perm.{perm-first, perm-end, perm-map}
+use Rattle.lists.proofs.Perm.{perm_first, perm_end, perm_map}
 use Rattle.lists.proofs.Plain.{all_weaker}
-use Rattle.lists.proofs.Laws.{insert-is-perm}
+use Rattle.lists.proofs.Laws.{insert-is_perm}
 use Rattle.rules.proofs.Tests.{neither}
 use Rattle.facts.specs.Different.{different}
-use Rattle.facts.proofs.Different.{has-append, has-perm, has-each, different-perm, different-new, different-first, different-later, different-last}
+use Rattle.facts.proofs.Different.{has-append, has_perm, has-each, different_perm, different-new, different-first, different-later, different-last}
 
 pub or_right : (a b : Bool) → b ≡ true → (a || b) ≡ true
 or_right true b e = refl
@@ -25,9 +25,9 @@ or_right false b e = e
 
 -- ---- what is in a list
 
-pub has-insert : (v : ℕ) (e : Neighbor) (xs : List Neighbor) → has v (nodesOf (insert e xs)) ≡ (eqb v (node_of e) || has v (nodesOf xs))
-unfolding nodesOf has
-has-insert v e xs = sym (has-perm v (perm-map node_of (insert-is-perm e xs)))
+pub has-insert : (v : ℕ) (e : Neighbor) (xs : List Neighbor) → has v (nodes_of (insert e xs)) ≡ (eqb v (node_of e) || has v (nodes_of xs))
+unfolding nodes_of has
+has-insert v e xs = sym (has_perm v (perm_map node_of (insert-is_perm e xs)))
 
 pub all_in : (xs : List ℕ) → All (λ (v : ℕ). has v xs ≡ true) xs
 unfolding has
@@ -53,9 +53,9 @@ different-append (x ∷ xs) ys d e A =
     different-new x (xs ++ ys) (has-append x xs ys ∙ rw (different-first x xs d) A.0) (different-append xs ys (different-later x xs d) e A.1)
 
 -- each of the places is new, so all are different
-pub different-places : (xs : List ℕ) → ((i : ℕ) → i < length xs → has (get_or xs i 0) (take i xs) ≡ false) → different xs ≡ true
+pub different_places : (xs : List ℕ) → ((i : ℕ) → i < length xs → has (get_or xs i 0) (take i xs) ≡ false) → different xs ≡ true
 unfolding different
-different-places xs new = subst (λ (l : List ℕ). different l ≡ true) (take-length xs) (first (length xs) (omega arith))
+different_places xs new = subst (λ (l : List ℕ). different l ≡ true) (take-length xs) (first (length xs) (omega arith))
   where
     first : (i : ℕ) → i ≤ length xs → different (take i xs) ≡ true
     first zero h = refl
@@ -63,30 +63,30 @@ different-places xs new = subst (λ (l : List ℕ). different l ≡ true) (take-
 
 -- ---- entries cut off
 
-has-cut : (v j : ℕ) (xs ys : List Neighbor) → has v (nodesOf (xs ++ ys)) ≡ false → has v (nodesOf (take j xs ++ ys)) ≡ false
-unfolding nodesOf has
-has-cut v zero [] ys h = h
-has-cut v zero (x ∷ xs) ys h = has-cut v zero xs ys (neither (eqb v (node_of x)) (has v (nodesOf (xs ++ ys))) h).1
-has-cut v (suc j) [] ys h = h
-has-cut v (suc j) (x ∷ xs) ys h =
-    let p = neither (eqb v (node_of x)) (has v (nodesOf (xs ++ ys))) h in rw p.0 (has-cut v j xs ys p.1)
+has_cut : (v j : ℕ) (xs ys : List Neighbor) → has v (nodes_of (xs ++ ys)) ≡ false → has v (nodes_of (take j xs ++ ys)) ≡ false
+unfolding nodes_of has
+has_cut v zero [] ys h = h
+has_cut v zero (x ∷ xs) ys h = has_cut v zero xs ys (neither (eqb v (node_of x)) (has v (nodes_of (xs ++ ys))) h).1
+has_cut v (suc j) [] ys h = h
+has_cut v (suc j) (x ∷ xs) ys h =
+    let p = neither (eqb v (node_of x)) (has v (nodes_of (xs ++ ys))) h in rw p.0 (has_cut v j xs ys p.1)
 
-pub different-cut : (j : ℕ) (xs ys : List Neighbor) → different (nodesOf (xs ++ ys)) ≡ true → different (nodesOf (take j xs ++ ys)) ≡ true
-unfolding nodesOf
-different-cut zero [] ys d = d
-different-cut zero (x ∷ xs) ys d = different-cut zero xs ys (different-later (node_of x) (nodesOf (xs ++ ys)) d)
-different-cut (suc j) [] ys d = d
-different-cut (suc j) (x ∷ xs) ys d =
-    different-new (node_of x) (nodesOf (take j xs ++ ys)) (has-cut (node_of x) j xs ys (different-first (node_of x) (nodesOf (xs ++ ys)) d))
-    (different-cut j xs ys (different-later (node_of x) (nodesOf (xs ++ ys)) d))
+pub different_cut : (j : ℕ) (xs ys : List Neighbor) → different (nodes_of (xs ++ ys)) ≡ true → different (nodes_of (take j xs ++ ys)) ≡ true
+unfolding nodes_of
+different_cut zero [] ys d = d
+different_cut zero (x ∷ xs) ys d = different_cut zero xs ys (different-later (node_of x) (nodes_of (xs ++ ys)) d)
+different_cut (suc j) [] ys d = d
+different_cut (suc j) (x ∷ xs) ys d =
+    different-new (node_of x) (nodes_of (take j xs ++ ys)) (has_cut (node_of x) j xs ys (different-first (node_of x) (nodes_of (xs ++ ys)) d))
+    (different_cut j xs ys (different-later (node_of x) (nodes_of (xs ++ ys)) d))
 
-pub different-take : (j : ℕ) (xs : List Neighbor) → different (nodesOf xs) ≡ true → different (nodesOf (take j xs)) ≡ true
+pub different-take : (j : ℕ) (xs : List Neighbor) → different (nodes_of xs) ≡ true → different (nodes_of (take j xs)) ≡ true
 different-take j xs d =
-    subst (λ (l : List Neighbor). different (nodesOf l) ≡ true) (append-nil (take j xs))
-    (different-cut j xs [] (subst (λ (l : List Neighbor). different (nodesOf l) ≡ true) (sym (append-nil xs)) d))
+    subst (λ (l : List Neighbor). different (nodes_of l) ≡ true) (append-nil (take j xs))
+    (different_cut j xs [] (subst (λ (l : List Neighbor). different (nodes_of l) ≡ true) (sym (append-nil xs)) d))
 
 -- an entry in front of others goes in order among those before it
-pub different-insert : (e : Neighbor) (xs ys : List Neighbor) → different (nodesOf (xs ++ (e ∷ ys))) ≡ true → different (nodesOf (insert e xs ++ ys)) ≡ true
-unfolding nodesOf
+pub different-insert : (e : Neighbor) (xs ys : List Neighbor) → different (nodes_of (xs ++ (e ∷ ys))) ≡ true → different (nodes_of (insert e xs ++ ys)) ≡ true
+unfolding nodes_of
 different-insert e xs ys d =
-    sym (different-perm (perm-map node_of (perm-end ys (insert-is-perm e xs)))) ∙ different-perm (perm-map node_of (perm-first e xs ys)) ∙ d
+    sym (different_perm (perm_map node_of (perm_end ys (insert-is_perm e xs)))) ∙ different_perm (perm_map node_of (perm_first e xs ys)) ∙ d

@@ -4,12 +4,12 @@ use Rattle.rules.specs.declared.Neighbor.{Neighbor}
 use Rattle.rules.specs.Distance.{between}
 use Rattle.rules.specs.Lists.{node_of}
 use Rattle.rules.specs.Build.{Between}
-use Rattle.rules.specs.Rows.{emptySlot}
+use Rattle.rules.specs.Rows.{empty_slot}
 use Rattle.rules.specs.Refusals.{passed, decide}
-use Rattle.rules.specs.Descent.{Context, Descent, listAt, begun, passes, iterated}
-use Rattle.rules.specs.Places.{listsIn}
-use Rattle.rules.specs.DescentPlaces.{descentIn}
-use Rattle.rules.specs.DescentCall.{DescentLent, beginTable, beginRule, iterateRule}
+use Rattle.rules.specs.Descent.{Context, Descent, list_at, begun, passes, iterated}
+use Rattle.rules.specs.Places.{lists_in}
+use Rattle.rules.specs.DescentPlaces.{descent_in}
+use Rattle.rules.specs.DescentCall.{DescentLent, begin_table, begin_rule, iterate_rule}
 use Rattle.lists.specs.All.{All}
 use Rattle.exact.specs.Exact.{Other}
 use Rattle.descent_kept.specs.Formed.{Each, Below, Formed}
@@ -33,17 +33,17 @@ pub record Legal (n : ℕ) (x : Descent) : Type 0 where
 
 -- an entry that stood in u's list before, or has its pair's distance
 abbrev pub Added : Between → ℕ → Descent → ℕ → Neighbor → Type 0
-Added d n x u e = In e (listAt x.lists u) ⊎ Paired d n u e
+Added d n x u e = In e (list_at x.lists u) ⊎ Paired d n u e
 
 -- how many pairs meet
-unfoldable pub pairsPassed : List Context → ℕ
-pairsPassed [] = 0
-pairsPassed (c ∷ cs) = length (passes c) + pairsPassed cs
+unfoldable pub pairs_passed : List Context → ℕ
+pairs_passed [] = 0
+pairs_passed (c ∷ cs) = length (passes c) + pairs_passed cs
 
 pub record Iteration (d : Between) (draws : List ℕ) (n k s : ℕ) (x : Descent) : Type 0 where
-  pub added : (u : ℕ) → u < n → All (Added d n x u) (listAt (iterated d draws n k s x).descent.lists u)
+  pub added : (u : ℕ) → u < n → All (Added d n x u) (list_at (iterated d draws n k s x).descent.lists u)
   -- "counts 1 when unequal: their total is the cost"
-  pub cost : (iterated d draws n k s x).cost ≤ pairsPassed x.contexts
+  pub cost : (iterated d draws n k s x).cost ≤ pairs_passed x.contexts
 
 -- ---- begin and any number of iterations, each with its draws and its s
 
@@ -53,12 +53,12 @@ pub data Reached (d : Between) (n k : ℕ) : Descent → Type 0 where
 
 -- "an unfilled one is (n, 0x7F7FFFFF)"; any other has its pair's distance
 abbrev pub Known : Between → ℕ → ℕ → Neighbor → Type 0
-Known d n u e = (e ≡ emptySlot n) ⊎ Paired d n u e
+Known d n u e = (e ≡ empty_slot n) ⊎ Paired d n u e
 
 pub record Standing (d : Between) (n k : ℕ) (x : Descent) : Type 0 where
   -- "k entries, ascending" among the rest
   pub formed : Formed n k x
-  pub known : (u : ℕ) → u < n → All (Known d n u) (listAt x.lists u)
+  pub known : (u : ℕ) → u < n → All (Known d n u) (list_at x.lists u)
 
 pub record DescentFacts (d : Between) : Type 0 where
   pub iteration : (draws : List ℕ) (n k s : ℕ) (x : Descent) → Legal n x → Iteration d draws n k s x
@@ -67,16 +67,16 @@ pub record DescentFacts (d : Between) : Type 0 where
 -- ---- the calls
 
 -- the descent that an iteration is lent, and the lists that it leaves
-abbrev pub lentDescent : DescentLent → Descent
-lentDescent l = descentIn l.n l.k l.state-u l.state-f
+abbrev pub lent_descent : DescentLent → Descent
+lent_descent l = descent_in l.n l.k l.state_u l.state_f
 
-abbrev pub leftLists : DescentLent → List (List Neighbor)
-leftLists l = listsIn l.n l.k (iterateRule l).left.state-u (iterateRule l).left.state-f
+abbrev pub left_lists : DescentLent → List (List Neighbor)
+left_lists l = lists_in l.n l.k (iterate_rule l).left.state_u (iterate_rule l).left.state_f
 
 -- one iteration, of any well-formed state
 pub record IterateFacts (l : DescentLent) : Type 0 where
-  pub added : (u : ℕ) → u < l.n → All (Added (between l.lanes l.dimension) l.n (lentDescent l) u) (listAt (leftLists l) u)
-  pub cost : (iterateRule l).said.cost ≤ pairsPassed (lentDescent l).contexts
+  pub added : (u : ℕ) → u < l.n → All (Added (between l.lanes l.dimension) l.n (lent_descent l) u) (list_at (left_lists l) u)
+  pub cost : (iterate_rule l).said.cost ≤ pairs_passed (lent_descent l).contexts
 
 -- what the calls of one descent share
 pub record Game : Type 0 where
@@ -94,22 +94,22 @@ lent g s draws us fs ws gs =
       k = g.k;
       s = s;
       draws = draws;
-      state-u = us;
-      state-f = fs;
-      scratch-u = ws;
-      scratch-f = gs;
+      state_u = us;
+      state_f = fs;
+      scratch_u = ws;
+      scratch_f = gs;
     }
 
 -- the states that a begin and then iterations leave, refused ones among these
 pub data Called (g : Game) : List ℕ → List Float → Type 0 where
   began : (s : ℕ) (draws us : List ℕ) (fs : List Float) (ws : List ℕ) (gs : List Float)
-      → decide (beginTable (lent g s draws us fs ws gs)) ≡ passed
-      → Called g (beginRule (lent g s draws us fs ws gs)).left.state-u (beginRule (lent g s draws us fs ws gs)).left.state-f
+      → decide (begin_table (lent g s draws us fs ws gs)) ≡ passed
+      → Called g (begin_rule (lent g s draws us fs ws gs)).left.state_u (begin_rule (lent g s draws us fs ws gs)).left.state_f
   iterates : (s : ℕ) (draws : List ℕ) {us : List ℕ} {fs : List Float} (ws : List ℕ) (gs : List Float) → Called g us fs
-      → Called g (iterateRule (lent g s draws us fs ws gs)).left.state-u (iterateRule (lent g s draws us fs ws gs)).left.state-f
+      → Called g (iterate_rule (lent g s draws us fs ws gs)).left.state_u (iterate_rule (lent g s draws us fs ws gs)).left.state_f
 
 -- each entry of the lists in such a state is unfilled or has its pair's distance
 abbrev pub CalledFacts : Game → Type 0
 CalledFacts g =
     (us : List ℕ) (fs : List Float) → Called g us fs → (u : ℕ) → u < g.n
-    → All (Known (between g.lanes g.dimension) g.n u) (listAt (listsIn g.n g.k us fs) u)
+    → All (Known (between g.lanes g.dimension) g.n u) (list_at (lists_in g.n g.k us fs) u)

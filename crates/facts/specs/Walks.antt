@@ -7,9 +7,9 @@ use Rattle.rules.specs.declared.Distance.TheVariants.{Fit}
 use Rattle.rules.specs.declared.Neighbor.{Neighbor}
 use Rattle.rules.specs.Loops.{has}
 use Rattle.rules.specs.Distance.{fit}
-use Rattle.rules.specs.Lists.{node_of, nodesOf}
+use Rattle.rules.specs.Lists.{node_of, nodes_of}
 use Rattle.rules.specs.Offers.{ascending}
-use Rattle.rules.specs.Search.{Walk, isSeen, farthest}
+use Rattle.rules.specs.Search.{Walk, is_seen, farthest}
 use Rattle.lists.specs.All.{All}
 use Rattle.expand.specs.Queue.{ones}
 use Rattle.facts.specs.Different.{different}
@@ -31,7 +31,7 @@ pub record BestSet (apart : ℕ → Distance) (n m : ℕ) (best : List Neighbor)
   pub long : length best ≡ m
   pub ascends : ascending best ≡ true
   pub rises : rising best ≡ true
-  pub different : different (nodesOf best) ≡ true
+  pub different : different (nodes_of best) ≡ true
   pub measured : All (Measured apart n) best
 
 pub record Walked (apart : ℕ → Distance) (n k : ℕ) (roots : List ℕ) (s : Walk) : Type 0 where
@@ -44,6 +44,6 @@ pub record Walked (apart : ℕ → Distance) (n k : ℕ) (roots : List ℕ) (s :
   -- a distance is worked out for each node that is seen, once
   pub worked : s.worked ≡ ones s.seen
   pub works : s.worked ≤ n
-  pub roots-seen : (i : ℕ) → i < length roots → isSeen (get_or roots i 0) s.seen ≡ true
+  pub roots_seen : (i : ℕ) → i < length roots → is_seen (get_or roots i 0) s.seen ≡ true
   -- no node whose distance was worked out is nearer than the farthest best, unless it is in the best set
-  pub nearest : (v : ℕ) (x : Float) → v < n → isSeen v s.seen ≡ true → apart v ≡ Fit x → lt x (farthest s.best) ≡ true → has v (nodesOf s.best) ≡ true
+  pub nearest : (v : ℕ) (x : Float) → v < n → is_seen v s.seen ≡ true → apart v ≡ Fit x → lt x (farthest s.best) ≡ true → has v (nodes_of s.best) ≡ true

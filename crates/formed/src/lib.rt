@@ -1,14 +1,14 @@
 // Whether lists of entries in lent slices are well formed: ascending, and each entry a node with a distance that it may have.
 ghost use Rattle.std.specs.Prelude.{◌≡◌, ◌*◌, ◌≤◌, length};
 ghost use Rattle.rules.specs.Lists.{entries};
-ghost use Rattle.rules.specs.Offers.{entryFormed, entriesFormed, ascending, listFormed, listsFormed};
-ghost use Rattle.rules.specs.Places.{listsIn};
+ghost use Rattle.rules.specs.Offers.{entry_formed, entries_formed, ascending, list_formed, lists_formed};
+ghost use Rattle.rules.specs.Places.{lists_in};
 
 use rules::{Neighbor, NodeId};
 
 /// Whether an entry is well formed: no node above `n`, node `n` exactly with the empty distance, all other distances fit.
 pub fn entry_formed(e: Neighbor, n: usize) -> bool
-    ensures { result ≡ entryFormed n e }
+    ensures { result ≡ entry_formed n e }
 {
     let x = e.distance;
     let node = e.node;
@@ -30,7 +30,7 @@ pub fn entry_formed(e: Neighbor, n: usize) -> bool
 /// Whether each of the first `len` entries is well formed.
 pub fn entries_formed(nodes: &[u32], dists: &[f32], len: usize, n: usize) -> bool
     requires { (len ≤ length nodes.now) × (len ≤ length dists.now) }
-    ensures { result ≡ entriesFormed n (entries len nodes.now dists.now) }
+    ensures { result ≡ entries_formed n (entries len nodes.now dists.now) }
 {
     let mut i = 0;
     while i < len {
@@ -72,7 +72,7 @@ pub fn ascending(nodes: &[u32], dists: &[f32], len: usize) -> bool
 /// Whether the list of the first `len` entries is well formed.
 pub fn list_formed(nodes: &[u32], dists: &[f32], len: usize, n: usize) -> bool
     requires { (len ≤ length nodes.now) × (len ≤ length dists.now) }
-    ensures { result ≡ listFormed n (entries len nodes.now dists.now) }
+    ensures { result ≡ list_formed n (entries len nodes.now dists.now) }
 {
     if ascending(nodes, dists, len) {
         return entries_formed(nodes, dists, len, n);
@@ -83,7 +83,7 @@ pub fn list_formed(nodes: &[u32], dists: &[f32], len: usize, n: usize) -> bool
 /// Whether `n` lists of `k` entries, one behind the other, are all well formed.
 pub fn lists_formed(nodes: &[u32], dists: &[f32], n: usize, k: usize) -> bool
     requires { (n ≤ 4096) × (k ≤ 64) × (n * k ≤ length nodes.now) × (n * k ≤ length dists.now) }
-    ensures { result ≡ listsFormed n (listsIn n k nodes.now dists.now) }
+    ensures { result ≡ lists_formed n (lists_in n k nodes.now dists.now) }
 {
     let mut w: usize = 0;
     while w < n {

@@ -1,6 +1,6 @@
 // Reads a game: games/README.md gives the lines of its file.
 ghost use Rattle.std.specs.Prelude.{◌≡◌, ◌%◌, slice_index};
-ghost use Rattle.games.specs.Games.{nothing, readTo, put, wholesPut, valuesPut, ended, name_of, lanesLine, withParams, teachLine, namesLine, rootsLine, withPoint, isPoint, read, pointLine, setting, lineRead, nextLine, wholeLine, fileRead};
+ghost use Rattle.games.specs.Games.{nothing, read_to, put, wholes_put, values_put, ended, name_of, lanes_line, with_params, teach_line, names_line, roots_line, with_point, is_point, read, point_line, setting, line_read, next_line, whole_line, file_read};
 
 use params::SsgParams;
 
@@ -83,7 +83,7 @@ fn nothing() -> Game
 
 // The game read up to a place, where something may be wrong.
 fn read_to(g: Game, place: usize, fault: u32) -> Game
-    ensures { result ≡ readTo g place fault }
+    ensures { result ≡ read_to g place fault }
 {
     let mut r = g;
     r.place = place;
@@ -93,7 +93,7 @@ fn read_to(g: Game, place: usize, fault: u32) -> Game
 
 // Reads the next words of a line as whole numbers.
 fn read_wholes(text: &[u8], g: Game, first: usize, end: usize, wholes: &mut [u32]) -> Game
-    ensures { put result wholes.new ≡ wholesPut text.now g first end wholes.old }
+    ensures { put result wholes.new ≡ wholes_put text.now g first end wholes.old }
 {
     let mut at = g.place;
     let mut i = first;
@@ -114,7 +114,7 @@ fn read_wholes(text: &[u8], g: Game, first: usize, end: usize, wholes: &mut [u32
 
 // Reads the next words of a line as numbers.
 fn read_values(text: &[u8], g: Game, first: usize, end: usize, values: &mut [f32]) -> Game
-    ensures { put result values.new ≡ valuesPut text.now g first end values.old }
+    ensures { put result values.new ≡ values_put text.now g first end values.old }
 {
     let mut at = g.place;
     let mut i = first;
@@ -172,7 +172,7 @@ pub fn name_of(wholes: &[u32], node: usize) -> usize
 
 // `lanes NAME..`
 fn lanes_line(text: &[u8], g: Game) -> Game
-    ensures { result ≡ lanesLine text.now g }
+    ensures { result ≡ lanes_line text.now g }
 {
     let count = lines::count_words(text, g.place);
     if g.dimension != 0 {
@@ -192,7 +192,7 @@ fn lanes_line(text: &[u8], g: Game) -> Game
 
 // The game with the sizes and the threshold of a build.
 fn with_params(g: Game, wholes: &[u32], threshold: f32) -> Game
-    ensures { result ≡ withParams g wholes.now threshold }
+    ensures { result ≡ with_params g wholes.now threshold }
 {
     let params = SsgParams {
         threshold: threshold,
@@ -207,7 +207,7 @@ fn with_params(g: Game, wholes: &[u32], threshold: f32) -> Game
 
 // `teach INIT_K INDEX_SIZE NEIGHBOR_NEIGHBOR_SIZE THRESHOLD`
 fn teach_line(text: &[u8], g: Game, wholes: &mut [u32]) -> Game
-    ensures { put result wholes.new ≡ teachLine text.now g wholes.old }
+    ensures { put result wholes.new ≡ teach_line text.now g wholes.old }
 {
     let a = read_wholes(text, g, SIZES, K, wholes);
     if a.fault != FINE {
@@ -220,7 +220,7 @@ fn teach_line(text: &[u8], g: Game, wholes: &mut [u32]) -> Game
 
 // `names K`
 fn names_line(text: &[u8], g: Game, wholes: &mut [u32]) -> Game
-    ensures { put result wholes.new ≡ namesLine text.now g wholes.old }
+    ensures { put result wholes.new ≡ names_line text.now g wholes.old }
 {
     let a = read_wholes(text, g, K, PLACES, wholes);
     let mut r = ended(text, a);
@@ -230,7 +230,7 @@ fn names_line(text: &[u8], g: Game, wholes: &mut [u32]) -> Game
 
 // `roots NODE..`
 fn roots_line(text: &[u8], g: Game, wholes: &mut [u32]) -> Game
-    ensures { put result wholes.new ≡ rootsLine text.now g wholes.old }
+    ensures { put result wholes.new ≡ roots_line text.now g wholes.old }
 {
     let count = lines::count_words(text, g.place);
     if count > SIZES {
@@ -243,7 +243,7 @@ fn roots_line(text: &[u8], g: Game, wholes: &mut [u32]) -> Game
 
 // One counter or query more, where nothing is wrong: counters stand before queries.
 fn with_point(g: Game, kind: u64, place: usize) -> Game
-    ensures { result ≡ withPoint g kind place }
+    ensures { result ≡ with_point g kind place }
 {
     if g.fault != FINE {
         return g;
@@ -268,7 +268,7 @@ fn short(place: usize) -> u32
 
 // `counter NAME LANE..` and `query NAME LANE..`: the name's place and the lanes, behind all that are there.
 fn point_line(text: &[u8], g: Game, kind: u64, wholes: &mut [u32], values: &mut [f32]) -> Game
-    ensures { read result wholes.new values.new ≡ pointLine text.now kind (read g wholes.old values.old) }
+    ensures { read result wholes.new values.new ≡ point_line text.now kind (read g wholes.old values.old) }
 {
     if g.dimension == 0 {
         return read_to(g, g.place, LANES);
@@ -306,7 +306,7 @@ fn setting(text: &[u8], g: Game, kind: u64, start: usize, wholes: &mut [u32]) ->
 }
 
 fn is_point(kind: u64) -> bool
-    ensures { result ≡ isPoint kind }
+    ensures { result ≡ is_point kind }
 {
     if kind == COUNTER {
         return true;
@@ -315,7 +315,7 @@ fn is_point(kind: u64) -> bool
 }
 
 fn line(text: &[u8], g: Game, wholes: &mut [u32], values: &mut [f32]) -> Game
-    ensures { read result wholes.new values.new ≡ lineRead text.now (read g wholes.old values.old) }
+    ensures { read result wholes.new values.new ≡ line_read text.now (read g wholes.old values.old) }
 {
     let w = lines::next_word(text, g.place);
     if w.start == w.end {
@@ -330,7 +330,7 @@ fn line(text: &[u8], g: Game, wholes: &mut [u32], values: &mut [f32]) -> Game
 
 // The game read up to the start of the next line, where nothing is wrong.
 fn next_line(text: &[u8], g: Game) -> Game
-    ensures { result ≡ nextLine text.now g }
+    ensures { result ≡ next_line text.now g }
 {
     if g.fault != FINE {
         return g;
@@ -343,7 +343,7 @@ fn next_line(text: &[u8], g: Game) -> Game
 }
 
 fn whole_line(text: &[u8], g: Game, wholes: &mut [u32], values: &mut [f32]) -> Game
-    ensures { read result wholes.new values.new ≡ wholeLine text.now (read g wholes.old values.old) }
+    ensures { read result wholes.new values.new ≡ whole_line text.now (read g wholes.old values.old) }
 {
     let r = line(text, g, wholes, values);
     next_line(text, r)
@@ -351,7 +351,7 @@ fn whole_line(text: &[u8], g: Game, wholes: &mut [u32], values: &mut [f32]) -> G
 
 /// Reads a whole file, up to the first thing that is wrong. A proved loop has to end: it counts the lines, and stops at more than there are bytes.
 pub fn read(text: &[u8], wholes: &mut [u32], values: &mut [f32]) -> Game
-    ensures { read result wholes.new values.new ≡ fileRead text.now wholes.old values.old }
+    ensures { read result wholes.new values.new ≡ file_read text.now wholes.old values.old }
 {
     let mut g = nothing();
     let mut turns: u32 = 65536;

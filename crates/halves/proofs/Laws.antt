@@ -11,15 +11,15 @@ use lib.Seq.{drop_at, drop-drop, drop-cons, drop-set-add, length-take-le}
 use lib.Ieee.{Float}
 use Rattle.rules.specs.declared.Neighbor.{Neighbor}
 use Rattle.rules.specs.Distance.{zero32}
-use Rattle.rules.specs.Lists.{entries, nodesOf, distancesOf, insert}
+use Rattle.rules.specs.Lists.{entries, nodes_of, distances_of, insert}
 use Rattle.rules.specs.Offers.{look, pop}
-use Rattle.rules.specs.Relay.{Stage, taken_of, longerOf, bit, nextStage, nextList}
+use Rattle.rules.specs.Relay.{Stage, taken_of, longer_of, bit, next_stage, next_list}
 use Rattle.rules.specs.Places.{padded}
-use Rattle.rules.specs.RelayPlaces.{stageIn}
+use Rattle.rules.specs.RelayPlaces.{stage_in}
 use Rattle.rules.proofs.Places.{drop-replicate}
 use Rattle.lists.specs.Lists.{Pushed, Popped}
 use Rattle.lists.proofs.Laws.{length-insert}
-use Rattle.lists.proofs.Slices.{length-entries, nodesOf-entries, distancesOf-entries}
+use Rattle.lists.proofs.Slices.{length-entries, nodes_of-entries, distances_of-entries}
 use Rattle.lists.proofs.Plain.{length-nodes, length-distances}
 use Rattle.halves.specs.Halves.{NextFlags, Roomed, NextList}
 
@@ -31,21 +31,21 @@ flag (suc zero) h = refl
 flag (suc (suc t)) h = absurd (omega arith)
 
 module _ (k : ℕ) (equal : Bool) (e : Neighbor) (l : List Neighbor) where
-  pub flags-looked : (steps a : ℕ) (t longer : Bool) → steps ≡ 0 → a ≡ bit (not equal && look e l) → NextFlags k equal e l (stageIn steps t longer) (record { taken = a; longer = 0 })
-  unfolding nextStage stageIn taken_of longerOf
+  pub flags-looked : (steps a : ℕ) (t longer : Bool) → steps ≡ 0 → a ≡ bit (not equal && look e l) → NextFlags k equal e l (stage_in steps t longer) (record { taken = a; longer = 0 })
+  unfolding next_stage stage_in taken_of longer_of
   flags-looked steps a t longer s h = rw s (record { taken = h; longer = refl })
 
-  pub flags-pushed : (steps t : ℕ) (longer : Bool) → steps ≡ 1 → t ≤ 1 → NextFlags k equal e l (stageIn steps (eqb t 1) longer) (record { taken = t; longer = 0 })
-  unfolding nextStage stageIn taken_of longerOf
+  pub flags-pushed : (steps t : ℕ) (longer : Bool) → steps ≡ 1 → t ≤ 1 → NextFlags k equal e l (stage_in steps (eqb t 1) longer) (record { taken = t; longer = 0 })
+  unfolding next_stage stage_in taken_of longer_of
   flags-pushed steps t longer s h = rw s (record { taken = flag t h; longer = refl })
 
   pub flags-measured : (steps t b : ℕ) (longer : Bool) → steps ≡ 2 → t ≤ 1 → b ≡ bit (eqb t 1 && ltb k (length l))
-      → NextFlags k equal e l (stageIn steps (eqb t 1) longer) (record { taken = t; longer = b })
-  unfolding nextStage stageIn taken_of longerOf
+      → NextFlags k equal e l (stage_in steps (eqb t 1) longer) (record { taken = t; longer = b })
+  unfolding next_stage stage_in taken_of longer_of
   flags-measured steps t b longer s h g = rw s (record { taken = flag t h; longer = g })
 
-  pub flags-popped : (steps t longer : ℕ) → steps ≡ 3 → t ≤ 1 → longer ≤ 1 → NextFlags k equal e l (stageIn steps (eqb t 1) (eqb longer 1)) (record { taken = t; longer = longer })
-  unfolding nextStage stageIn taken_of longerOf
+  pub flags-popped : (steps t longer : ℕ) → steps ≡ 3 → t ≤ 1 → longer ≤ 1 → NextFlags k equal e l (stage_in steps (eqb t 1) (eqb longer 1)) (record { taken = t; longer = longer })
+  unfolding next_stage stage_in taken_of longer_of
   flags-popped steps t longer s h g = rw s (record { taken = flag t h; longer = flag longer g })
 
 -- ---- room behind a list
@@ -85,40 +85,40 @@ module _ {ns : List ℕ} {ds : List Float} {len : ℕ} (room : Roomed ns ds len)
   long : length l ≡ len
   long = let a = room.long in let b = room.wide in length-entries len ns ds a (omega arith)
 
-  pub list-kept : (s : Stage) → nextList e l s ≡ l → NextList ns ds len e s ns ds len
+  pub list-kept : (s : Stage) → next_list e l s ≡ l → NextList ns ds len e s ns ds len
   list-kept s h =
       record {
         count = sym long ∙ ap length (sym h);
         few = room.long;
-        nodes = room.nodes ∙ ap (λ (x : List Neighbor). padded (length ns) 0 (nodesOf x)) (sym h);
-        dists = room.dists ∙ ap (λ (x : List Neighbor). padded (length ns) zero32 (distancesOf x)) (sym h);
+        nodes = room.nodes ∙ ap (λ (x : List Neighbor). padded (length ns) 0 (nodes_of x)) (sym h);
+        dists = room.dists ∙ ap (λ (x : List Neighbor). padded (length ns) zero32 (distances_of x)) (sym h);
       }
 
   list_put : (l' : List Neighbor) (ns' : List ℕ) (ds' : List Float) (r : ℕ) → length l' ≡ r → r ≤ length ns' → r ≤ length ds' → entries r ns' ds' ≡ l'
       → drop r ns' ≡ replicate (length ns - r) 0 → drop r ds' ≡ replicate (length ns - r) zero32
-      → (r ≡ length l') × (ns' ≡ padded (length ns) 0 (nodesOf l')) × (ds' ≡ padded (length ns) zero32 (distancesOf l'))
+      → (r ≡ length l') × (ns' ≡ padded (length ns) 0 (nodes_of l')) × (ds' ≡ padded (length ns) zero32 (distances_of l'))
   list_put l' ns' ds' r a b c d f g = (
     sym a,
-    repad 0 (length ns) r (nodesOf l') ns' (sym (nodesOf-entries r ns' ds' c) ∙ ap nodesOf d) (length-nodes l' ∙ a) f,
-    repad zero32 (length ns) r (distancesOf l') ds' (sym (distancesOf-entries r ns' ds' b) ∙ ap distancesOf d) (length-distances l' ∙ a) g,
+    repad 0 (length ns) r (nodes_of l') ns' (sym (nodes_of-entries r ns' ds' c) ∙ ap nodes_of d) (length-nodes l' ∙ a) f,
+    repad zero32 (length ns) r (distances_of l') ds' (sym (distances_of-entries r ns' ds' b) ∙ ap distances_of d) (length-distances l' ∙ a) g,
   )
 
-  pub list_pushed : (steps t : ℕ) (longer : Bool) {ns' : List ℕ} {ds' : List Float} {r : ℕ} → steps ≡ 1 → t ≡ 1 → len < length ns → Pushed ns ds len e ns' ds' r → NextList ns ds len e (stageIn steps (eqb t 1) longer) ns' ds' r
-  unfolding nextList stageIn
+  pub list_pushed : (steps t : ℕ) (longer : Bool) {ns' : List ℕ} {ds' : List Float} {r : ℕ} → steps ≡ 1 → t ≡ 1 → len < length ns → Pushed ns ds len e ns' ds' r → NextList ns ds len e (stage_in steps (eqb t 1) longer) ns' ds' r
+  unfolding next_list stage_in
   list_pushed steps t longer {ns'} {ds'} {r} s g h made =
       let a = length-insert e l in
       let b = long in
       let w = room.wide in
-      let n1 = made.nodes-long in
-      let n2 = made.dists-long in
+      let n1 = made.nodes_long in
+      let n2 = made.dists_long in
       let c = made.count in
       let p = list_put (insert e l) ns' ds' r (omega arith) (omega arith) (omega arith) made.list
-      (made.nodes-rest ∙ behind 0 (length ns) r (nodesOf l) ns room.nodes (let d = length-nodes l in omega arith))
-      (made.dists-rest ∙ behind zero32 (length ns) r (distancesOf l) ds room.dists (let d = length-distances l in omega arith)) in
+      (made.nodes_rest ∙ behind 0 (length ns) r (nodes_of l) ns room.nodes (let d = length-nodes l in omega arith))
+      (made.dists_rest ∙ behind zero32 (length ns) r (distances_of l) ds room.dists (let d = length-distances l in omega arith)) in
       rw (s, eq-eqb t 1 g) (record { count = p.0; few = omega arith; nodes = p.1; dists = p.2 })
 
-  pub list-popped : (steps longer : ℕ) (t : Bool) {ns' : List ℕ} {ds' : List Float} {r : ℕ} → steps ≡ 3 → longer ≡ 1 → Popped ns ds len ns' ds' r → NextList ns ds len e (stageIn steps t (eqb longer 1)) ns' ds' r
-  unfolding nextList stageIn pop
+  pub list-popped : (steps longer : ℕ) (t : Bool) {ns' : List ℕ} {ds' : List Float} {r : ℕ} → steps ≡ 3 → longer ≡ 1 → Popped ns ds len ns' ds' r → NextList ns ds len e (stage_in steps t (eqb longer 1)) ns' ds' r
+  unfolding next_list stage_in pop
   list-popped steps longer t {ns'} {ds'} {r} s g made =
       let b = long in
       let c = made.count in
@@ -128,23 +128,23 @@ module _ {ns : List ℕ} {ds : List Float} {len : ℕ} (room : Roomed ns ds len)
       let n1 : length ns' ≡ length ns = ap length made.nodes ∙ length-set ns r 0 in
       let n2 : length ds' ≡ length ds = ap length made.dists ∙ length-set ds r zero32 in
       let p = list_put (take (length l - 1) l) ns' ds' r (length-take-le (length l - 1) l (omega arith) ∙ one) (omega arith) (omega arith) (made.list ∙ ap (λ (i : ℕ). take i l) (sym one))
-      (ap (drop r) made.nodes ∙ freed 0 (length ns) r (nodesOf l) ns room.nodes (let d = length-nodes l in omega arith) (omega arith) (omega arith))
-      (ap (drop r) made.dists ∙ freed zero32 (length ns) r (distancesOf l) ds room.dists (let d = length-distances l in omega arith) (omega arith) (omega arith)) in
+      (ap (drop r) made.nodes ∙ freed 0 (length ns) r (nodes_of l) ns room.nodes (let d = length-nodes l in omega arith) (omega arith) (omega arith))
+      (ap (drop r) made.dists ∙ freed zero32 (length ns) r (distances_of l) ds room.dists (let d = length-distances l in omega arith) (omega arith) (omega arith)) in
       rw (s, eq-eqb longer 1 g) (record { count = p.0; few = omega arith; nodes = p.1; dists = p.2 })
 
 -- ---- stages at which the list stays
 
 module _ (e : Neighbor) (l : List Neighbor) where
-  pub stays-left : (steps t : ℕ) (longer : Bool) → steps ≡ 1 → (t ≡ 1 → ⊥) → nextList e l (stageIn steps (eqb t 1) longer) ≡ l
-  unfolding nextList stageIn
-  stays-left steps t longer s h = rw (s, ne_eqb t 1 h)
+  pub stays_left : (steps t : ℕ) (longer : Bool) → steps ≡ 1 → (t ≡ 1 → ⊥) → next_list e l (stage_in steps (eqb t 1) longer) ≡ l
+  unfolding next_list stage_in
+  stays_left steps t longer s h = rw (s, ne_eqb t 1 h)
 
-  pub stays-short : (steps longer : ℕ) (t : Bool) → steps ≡ 3 → (longer ≡ 1 → ⊥) → nextList e l (stageIn steps t (eqb longer 1)) ≡ l
-  unfolding nextList stageIn
-  stays-short steps longer t s h = rw (s, ne_eqb longer 1 h)
+  pub stays_short : (steps longer : ℕ) (t : Bool) → steps ≡ 3 → (longer ≡ 1 → ⊥) → next_list e l (stage_in steps t (eqb longer 1)) ≡ l
+  unfolding next_list stage_in
+  stays_short steps longer t s h = rw (s, ne_eqb longer 1 h)
 
-  pub stays : (steps : ℕ) (t longer : Bool) → steps ≤ 3 → (steps ≡ 1 → ⊥) → (steps ≡ 3 → ⊥) → nextList e l (stageIn steps t longer) ≡ l
-  unfolding nextList stageIn
+  pub stays : (steps : ℕ) (t longer : Bool) → steps ≤ 3 → (steps ≡ 1 → ⊥) → (steps ≡ 3 → ⊥) → next_list e l (stage_in steps t longer) ≡ l
+  unfolding next_list stage_in
   stays zero t longer h a b = refl
   stays (suc zero) t longer h a b = absurd (a refl)
   stays (suc (suc zero)) t longer h a b = refl

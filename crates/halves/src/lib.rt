@@ -3,7 +3,7 @@ ghost use Rattle.std.specs.Prelude.{◌≡◌, not, ◌&&◌, ◌≤◌, ◌<◌
 ghost use Rattle.rules.specs.Lists.{entries};
 ghost use Rattle.rules.specs.Offers.{look};
 ghost use Rattle.rules.specs.Relay.{bit};
-ghost use Rattle.rules.specs.RelayPlaces.{stageIn};
+ghost use Rattle.rules.specs.RelayPlaces.{stage_in};
 ghost use Rattle.halves.specs.Halves.{NextFlags, Roomed, NextList};
 
 use rules::Neighbor;
@@ -56,7 +56,7 @@ pub fn next_flags(
 ) -> Flags
     requires le_k { (1 ≤ k) × (k ≤ len) × (len ≤ length nodes.now) × (len ≤ length dists.now) }
     requires steps_bound { (steps ≤ 3) × (taken ≤ 1) × (longer ≤ 1) }
-    ensures { NextFlags k equal e (entries len nodes.now dists.now) (stageIn steps (eqb taken 1) (eqb longer 1)) result }
+    ensures { NextFlags k equal e (entries len nodes.now dists.now) (stage_in steps (eqb taken 1) (eqb longer 1)) result }
 {
     if steps == 0 {
         return Flags {
@@ -89,7 +89,7 @@ pub fn next_list(
 ) -> usize
     requires le_len { (1 ≤ len) × (steps ≤ 3) × Roomed nodes.old dists.old len }
     requires len_in_bounds { steps ≡ 1 → taken ≡ 1 → len < length nodes.old }
-    ensures { NextList nodes.old dists.old len e (stageIn steps (eqb taken 1) (eqb longer 1)) nodes.new dists.new result }
+    ensures { NextList nodes.old dists.old len e (stage_in steps (eqb taken 1) (eqb longer 1)) nodes.new dists.new result }
 {
     if steps == 1 {
         if taken == 1 {

@@ -11,9 +11,9 @@ use lib.ListN.{length, take, drop, get_or, set, replicate, length-set, length-re
 use lib.Seq.{take-suc, length-take-le, get_or-take, get_or-drop, get_or-set_same, get_or-set_other, take-suc-set, drop-set-lt, ext_get_or}
 use borrow.Author.Tests.{eqb-true, eqb-false, eq-eqb, ne_eqb, le-leb, lt-leb}
 use Rattle.rules.specs.Loops.{through, has}
-use Rattle.rules.specs.Search.{mark, isSeen}
-use Rattle.rules.specs.Build.{taking, hop, twoHops, candidates}
-use Rattle.rules.proofs.Loops.{through-append, through-turn, through-end}
+use Rattle.rules.specs.Search.{mark, is_seen}
+use Rattle.rules.specs.Build.{taking, hop, two_hops, candidates}
+use Rattle.rules.proofs.Loops.{through-append, through_turn, through-end}
 use Rattle.lists.specs.All.{All}
 use Rattle.lists.proofs.Plain.{drop-later, all_append, all-at, all_weaker}
 use Rattle.hops.specs.Hops.{list_of, Linked, flags_of, Flagged, Took, Candidates}
@@ -23,16 +23,16 @@ use Rattle.hops.specs.Hops.{list_of, Linked, flags_of, Flagged, Took, Candidates
 abbrev puts : ℕ → ℕ → List ℕ → List ℕ
 puts a v flags = set flags v a
 
-length-puts : (a : ℕ) (vs flags : List ℕ) → length (through (puts a) vs flags) ≡ length flags
+length_puts : (a : ℕ) (vs flags : List ℕ) → length (through (puts a) vs flags) ≡ length flags
 unfolding through
-length-puts a [] flags = refl
-length-puts a (v ∷ vs) flags = length-puts a vs (set flags v a) ∙ length-set flags v a
+length_puts a [] flags = refl
+length_puts a (v ∷ vs) flags = length_puts a vs (set flags v a) ∙ length-set flags v a
 
-getD-puts : (a : ℕ) (vs flags : List ℕ) (v z : ℕ) → v < length flags → get_or (through (puts a) vs flags) v z ≡ cond (has v vs) a (get_or flags v z)
+get_d_puts : (a : ℕ) (vs flags : List ℕ) (v z : ℕ) → v < length flags → get_or (through (puts a) vs flags) v z ≡ cond (has v vs) a (get_or flags v z)
 unfolding through has
-getD-puts a [] flags v z h = refl
-getD-puts a (x ∷ vs) flags v z h =
-    getD-puts a vs (set flags x a) v z (rw (length-set flags x a) h) ∙ go (eqb v x) (has v vs) refl
+get_d_puts a [] flags v z h = refl
+get_d_puts a (x ∷ vs) flags v z h =
+    get_d_puts a vs (set flags x a) v z (rw (length-set flags x a) h) ∙ go (eqb v x) (has v vs) refl
   where
     go : (b t : Bool) → eqb v x ≡ b → cond t a (get_or (set flags x a) v z) ≡ cond (b || t) a (get_or flags v z)
     go true true e = refl
@@ -40,25 +40,25 @@ getD-puts a (x ∷ vs) flags v z h =
     go false true e = refl
     go false false e = get_or-set_other flags x v a z (eqb-false v x e)
 
-getD-flags : (n : ℕ) (taken : List ℕ) (v : ℕ) → v < n → get_or (flags_of n taken) v 0 ≡ cond (has v taken) 1 0
+get_d_flags : (n : ℕ) (taken : List ℕ) (v : ℕ) → v < n → get_or (flags_of n taken) v 0 ≡ cond (has v taken) 1 0
 unfolding flags_of mark
-getD-flags n taken v h =
-    getD-puts 1 taken (replicate n 0) v 0 (rw (length-replicate {A = ℕ} n 0) h)
+get_d_flags n taken v h =
+    get_d_puts 1 taken (replicate n 0) v 0 (rw (length-replicate {A = ℕ} n 0) h)
     ∙ ap (λ (x : ℕ). cond (has v taken) 1 x) (get_or-replicate n v 0 0 h)
 
 -- a flag says whether its node was taken
-pub seen-taken : (flags taken : List ℕ) (v : ℕ) → Flagged flags taken → v < length flags → isSeen v flags ≡ has v taken
-unfolding isSeen
+pub seen-taken : (flags taken : List ℕ) (v : ℕ) → Flagged flags taken → v < length flags → is_seen v flags ≡ has v taken
+unfolding is_seen
 seen-taken flags taken v f h =
-    ap (λ (l : List ℕ). eqb (get_or l v 0) 1) f ∙ ap (λ (x : ℕ). eqb x 1) (getD-flags (length flags) taken v h) ∙ go (has v taken)
+    ap (λ (l : List ℕ). eqb (get_or l v 0) 1) f ∙ ap (λ (x : ℕ). eqb x 1) (get_d_flags (length flags) taken v h) ∙ go (has v taken)
   where
     go : (b : Bool) → eqb (cond b 1 0) 1 ≡ b
     go true = refl
     go false = refl
 
-pub flagged-none : (flags : List ℕ) → flags ≡ replicate (length flags) 0 → Flagged flags []
+pub flagged_none : (flags : List ℕ) → flags ≡ replicate (length flags) 0 → Flagged flags []
 unfolding flags_of through
-flagged-none flags e = e
+flagged_none flags e = e
 
 flagged-more : (flags taken : List ℕ) (v : ℕ) → Flagged flags taken → Flagged (mark v flags) (taken ++ (v ∷ []))
 unfolding flags_of mark through
@@ -71,19 +71,19 @@ abbrev pub clears : ℕ → List ℕ → List ℕ
 clears v flags = set flags v 0
 
 -- once all taken are cleared, all flags are
-pub cleared-all : (flags taken : List ℕ) → Flagged flags taken → through clears taken flags ≡ replicate (length flags) 0
-cleared-all flags taken f =
+pub cleared_all : (flags taken : List ℕ) → Flagged flags taken → through clears taken flags ≡ replicate (length flags) 0
+cleared_all flags taken f =
     ext_get_or 0 (through clears taken flags) (replicate (length flags) 0) (long ∙ sym (length-replicate (length flags) 0))
     (λ (v : ℕ) (h : v < length (through clears taken flags)). at v (rw long at h))
   where
     long : length (through clears taken flags) ≡ length flags
-    long = length-puts 0 taken flags
+    long = length_puts 0 taken flags
 
     at : (v : ℕ) → v < length flags → get_or (through clears taken flags) v 0 ≡ get_or (replicate (length flags) 0) v 0
     at v h =
-        getD-puts 0 taken flags v 0 h
+        get_d_puts 0 taken flags v 0 h
         ∙ ap (λ (l : List ℕ). cond (has v taken) 0 (get_or l v 0)) f
-        ∙ ap (λ (x : ℕ). cond (has v taken) 0 x) (getD-flags (length flags) taken v h)
+        ∙ ap (λ (x : ℕ). cond (has v taken) 0 x) (get_d_flags (length flags) taken v h)
         ∙ go (has v taken) ∙ sym (get_or-replicate (length flags) v 0 0 h)
       where
         go : (b : Bool) → ◌≡◌ {A = ℕ} (cond b 0 (cond b 1 0)) 0
@@ -95,9 +95,9 @@ pub record Cleared (flags₀ out flags : List ℕ) (i : ℕ) : Type 0 where
   pub long : length flags ≡ length flags₀
   pub list : flags ≡ through clears (take i out) flags₀
 
-pub cleared-none : {flags out : List ℕ} → Cleared flags out flags 0
+pub cleared_none : {flags out : List ℕ} → Cleared flags out flags 0
 unfolding through
-cleared-none = record { long = refl; list = refl }
+cleared_none = record { long = refl; list = refl }
 
 pub cleared_more : {flags₀ out flags : List ℕ} {i : ℕ} → Cleared flags₀ out flags i → i < length out → Cleared flags₀ out (set flags (get_or out i 0) 0) (i + 1)
 unfolding through
@@ -121,9 +121,9 @@ module _ (m : ℕ) (taken : List ℕ) where
   taking-new e = rw e
 
   module _ (limit q : ℕ) where
-    hop-self : m ≡ q → hop limit q m taken ≡ taken
+    hop_self : m ≡ q → hop limit q m taken ≡ taken
     unfolding hop
-    hop-self e = rw (eq-eqb m q e) (go (leb limit (length taken)))
+    hop_self e = rw (eq-eqb m q e) (go (leb limit (length taken)))
       where
         go : (b : Bool) → cond (b || true) taken (taking m taken) ≡ taken
         go true = refl
@@ -133,25 +133,25 @@ module _ (m : ℕ) (taken : List ℕ) where
     unfolding hop
     hop-other h e = rw (lt-leb limit (length taken) h, ne_eqb m q e)
 
-    hop-full : limit ≤ length taken → hop limit q m taken ≡ taken
+    hop_full : limit ≤ length taken → hop limit q m taken ≡ taken
     unfolding hop
-    hop-full h = rw (le-leb limit (length taken) h)
+    hop_full h = rw (le-leb limit (length taken) h)
 
-hops-full : (limit q : ℕ) (ms taken : List ℕ) → limit ≤ length taken → through (hop limit q) ms taken ≡ taken
+hops_full : (limit q : ℕ) (ms taken : List ℕ) → limit ≤ length taken → through (hop limit q) ms taken ≡ taken
 unfolding through
-hops-full limit q [] taken h = refl
-hops-full limit q (m ∷ ms) taken h = ap (through (hop limit q) ms) (hop-full m taken limit q h) ∙ hops-full limit q ms taken h
+hops_full limit q [] taken h = refl
+hops_full limit q (m ∷ ms) taken h = ap (through (hop limit q) ms) (hop_full m taken limit q h) ∙ hops_full limit q ms taken h
 
 -- ---- in the slices
 
-pub took-none : {most : ℕ} {flags out : List ℕ} {len : ℕ} → Flagged flags (take len out) → len ≤ most → Took (take len out) most flags out len flags out len
-took-none {most} {flags} {out} {len} f h =
-    record { list = refl; flagged = f; more = le_refl len; within = h; rest = refl; flags_long = refl; out-long = refl }
+pub took_none : {most : ℕ} {flags out : List ℕ} {len : ℕ} → Flagged flags (take len out) → len ≤ most → Took (take len out) most flags out len flags out len
+took_none {most} {flags} {out} {len} f h =
+    record { list = refl; flagged = f; more = le_refl len; within = h; rest = refl; flags_long = refl; out_long = refl }
 
 -- another name of what was taken, and a later bound
-pub took-as : {goal goal' : List ℕ} {most most' : ℕ} {flags out : List ℕ} {len : ℕ} {flags' out' : List ℕ} {r : ℕ} → goal ≡ goal' → r ≤ most'
+pub took_as : {goal goal' : List ℕ} {most most' : ℕ} {flags out : List ℕ} {len : ℕ} {flags' out' : List ℕ} {r : ℕ} → goal ≡ goal' → r ≤ most'
     → Took goal most flags out len flags' out' r → Took goal' most' flags out len flags' out' r
-took-as {flags' = flags'} e h made =
+took_as {flags' = flags'} e h made =
     record {
       list = made.list ∙ e;
       flagged = made.flagged ∙ ap (flags_of (length flags')) e;
@@ -159,16 +159,16 @@ took-as {flags' = flags'} e h made =
       within = h;
       rest = made.rest;
       flags_long = made.flags_long;
-      out-long = made.out-long;
+      out_long = made.out_long;
     }
 
-pub took-flagged : {goal : List ℕ} {most : ℕ} {flags out : List ℕ} {len : ℕ} {flags' out' : List ℕ} {r : ℕ} → Took goal most flags out len flags' out' r → Flagged flags' (take r out')
-took-flagged {flags' = flags'} made = made.flagged ∙ ap (flags_of (length flags')) (sym made.list)
+pub took_flagged : {goal : List ℕ} {most : ℕ} {flags out : List ℕ} {len : ℕ} {flags' out' : List ℕ} {r : ℕ} → Took goal most flags out len flags' out' r → Flagged flags' (take r out')
+took_flagged {flags' = flags'} made = made.flagged ∙ ap (flags_of (length flags')) (sym made.list)
 
 -- one taking after another
-took-then : {goal goal' : List ℕ} {most most' : ℕ} {flags out : List ℕ} {len : ℕ} {flags' out' : List ℕ} {r : ℕ} {flags'' out'' : List ℕ} {r' : ℕ}
+took_then : {goal goal' : List ℕ} {most most' : ℕ} {flags out : List ℕ} {len : ℕ} {flags' out' : List ℕ} {r : ℕ} {flags'' out'' : List ℕ} {r' : ℕ}
     → Took goal most flags out len flags' out' r → Took goal' most' flags' out' r flags'' out'' r' → Took goal' most' flags out len flags'' out'' r'
-took-then {out = out} {out' = out'} {r = r} {r' = r'} first second =
+took_then {out = out} {out' = out'} {r = r} {r' = r'} first second =
     let u = first.more in
     let v = second.more in
     record {
@@ -178,17 +178,17 @@ took-then {out = out} {out' = out'} {r = r} {r' = r'} first second =
       within = second.within;
       rest = second.rest ∙ drop-later r r' out' out v first.rest;
       flags_long = second.flags_long ∙ first.flags_long;
-      out-long = second.out-long ∙ first.out-long;
+      out_long = second.out_long ∙ first.out_long;
     }
 
 module _ {flags out : List ℕ} {len : ℕ} {v : ℕ} (f : Flagged flags (take len out)) (h : v < length flags) (k : len < length out) where
-  pub took-before : isSeen v flags ≡ true → Took (taking v (take len out)) (len + 1) flags out len flags out len
-  took-before e =
-      took-as (sym (taking-before v (take len out) (sym (seen-taken flags (take len out) v f h) ∙ e))) (omega arith) (took-none {most = len} f (le_refl len))
+  pub took_before : is_seen v flags ≡ true → Took (taking v (take len out)) (len + 1) flags out len flags out len
+  took_before e =
+      took_as (sym (taking-before v (take len out) (sym (seen-taken flags (take len out) v f h) ∙ e))) (omega arith) (took_none {most = len} f (le_refl len))
 
-  pub took-new : {flags' : List ℕ} → isSeen v flags ≡ false → flags' ≡ mark v flags → Took (taking v (take len out)) (len + 1) flags out len flags' (set out len v) (len + 1)
+  pub took_new : {flags' : List ℕ} → is_seen v flags ≡ false → flags' ≡ mark v flags → Took (taking v (take len out)) (len + 1) flags out len flags' (set out len v) (len + 1)
   unfolding mark
-  took-new e g =
+  took_new e g =
       let goal = sym (taking-new v (take len out) (sym (seen-taken flags (take len out) v f h) ∙ e)) in
       rw g
       (record {
@@ -198,18 +198,18 @@ module _ {flags out : List ℕ} {len : ℕ} {v : ℕ} (f : Flagged flags (take l
         within = le_refl (len + 1);
         rest = drop-set-lt (len + 1) out len v (omega arith);
         flags_long = length-set flags v 1;
-        out-long = length-set out len v;
+        out_long = length-set out len v;
       })
 
 module _ {flags out : List ℕ} {len limit : ℕ} {q v : ℕ} (f : Flagged flags (take len out)) (l : len < limit) (k : limit ≤ length out) where
-  pub hopped-self : v ≡ q → Took (hop limit q v (take len out)) limit flags out len flags out len
-  hopped-self e = took-as (sym (hop-self v (take len out) limit q e)) (omega arith) (took-none {most = len} f (le_refl len))
+  pub hopped_self : v ≡ q → Took (hop limit q v (take len out)) limit flags out len flags out len
+  hopped_self e = took_as (sym (hop_self v (take len out) limit q e)) (omega arith) (took_none {most = len} f (le_refl len))
 
-  pub hopped-other : {flags' out' : List ℕ} {r : ℕ} → (v ≡ q → ⊥) → Took (taking v (take len out)) (len + 1) flags out len flags' out' r → Took (hop limit q v (take len out)) limit flags out len flags' out' r
-  hopped-other e made =
+  pub hopped_other : {flags' out' : List ℕ} {r : ℕ} → (v ≡ q → ⊥) → Took (taking v (take len out)) (len + 1) flags out len flags' out' r → Took (hop limit q v (take len out)) limit flags out len flags' out' r
+  hopped_other e made =
       let long = length-take-le len out (omega arith) in
       let within = made.within in
-      took-as (sym (hop-other v (take len out) limit q (omega arith) e)) (omega arith) made
+      took_as (sym (hop-other v (take len out) limit q (omega arith) e)) (omega arith) made
 
 -- ---- a walk over a list: to go on with the members that are left gives the whole walk
 
@@ -218,54 +218,54 @@ pub record Walked (f : ℕ → List ℕ → List ℕ) (ms : List ℕ) (most : �
   pub left : through f (drop i ms) (take len out) ≡ through f ms (take len₀ out₀)
 
 pub walked_none : {f : ℕ → List ℕ → List ℕ} {ms : List ℕ} {most : ℕ} {flags out : List ℕ} {len : ℕ} → Flagged flags (take len out) → len ≤ most → Walked f ms most flags out len flags out len 0
-walked_none f h = record { held = took-none f h; left = refl }
+walked_none f h = record { held = took_none f h; left = refl }
 
 module _ {f : ℕ → List ℕ → List ℕ} {ms : List ℕ} {most : ℕ} {flags₀ out₀ : List ℕ} {len₀ : ℕ} {flags out : List ℕ} {len i : ℕ} (inv : Walked f ms most flags₀ out₀ len₀ flags out len i) where
-  pub walked-turn : {most' most'' : ℕ} {m : ℕ} {flags' out' : List ℕ} {r : ℕ} → i < length ms → get_or ms i 0 ≡ m → r ≤ most'' → Took (f m (take len out)) most' flags out len flags' out' r
+  pub walked_turn : {most' most'' : ℕ} {m : ℕ} {flags' out' : List ℕ} {r : ℕ} → i < length ms → get_or ms i 0 ≡ m → r ≤ most'' → Took (f m (take len out)) most' flags out len flags' out' r
       → Walked f ms most'' flags₀ out₀ len₀ flags' out' r (i + 1)
-  walked-turn {m = m} l e h made =
+  walked_turn {m = m} l e h made =
       record {
-        held = took-as (sym made.list) h (took-then inv.held made);
+        held = took_as (sym made.list) h (took_then inv.held made);
         left =
             ap (through f (drop (i + 1) ms)) (made.list ∙ ap (λ (x : ℕ). f x (take len out)) (sym e))
-            ∙ through-turn f ms i 0 (take len out) l ∙ inv.left;
+            ∙ through_turn f ms i 0 (take len out) l ∙ inv.left;
       }
 
   pub walked_end : length ms ≤ i → Took (through f ms (take len₀ out₀)) most flags₀ out₀ len₀ flags out len
-  walked_end l = took-as (sym (through-end f ms i (take len out) l) ∙ inv.left) inv.held.within inv.held
+  walked_end l = took_as (sym (through-end f ms i (take len out) l) ∙ inv.left) inv.held.within inv.held
 
 -- "Stop as soon as `neighbor_neighbor_size` are taken."
-pub walked-full : (limit q : ℕ) {ms : List ℕ} {most : ℕ} {flags₀ out₀ : List ℕ} {len₀ : ℕ} {flags out : List ℕ} {len i : ℕ}
+pub walked_full : (limit q : ℕ) {ms : List ℕ} {most : ℕ} {flags₀ out₀ : List ℕ} {len₀ : ℕ} {flags out : List ℕ} {len i : ℕ}
     → Walked (hop limit q) ms most flags₀ out₀ len₀ flags out len i → len ≤ length out → limit ≤ len → Took (through (hop limit q) ms (take len₀ out₀)) most flags₀ out₀ len₀ flags out len
-walked-full limit q {ms} {out = out} {len = len} {i = i} inv k l =
+walked_full limit q {ms} {out = out} {len = len} {i = i} inv k l =
     let long = length-take-le len out k in
-    took-as (sym (hops-full limit q (drop i ms) (take len out) (omega arith)) ∙ inv.left) inv.held.within inv.held
+    took_as (sym (hops_full limit q (drop i ms) (take len out) (omega arith)) ∙ inv.left) inv.held.within inv.held
 
 -- ---- the list of a node
 
-module _ {lists : List ℕ} {init-k count n : ℕ} (linked : Linked lists init-k count n) (v : ℕ) (h : v < n) where
-  pub from-room : v * init-k + init-k ≤ length lists
+module _ {lists : List ℕ} {init_k count n : ℕ} (linked : Linked lists init_k count n) (v : ℕ) (h : v < n) where
+  pub from-room : v * init_k + init_k ≤ length lists
   from-room =
       let room = linked.room in
-      let m : suc v * init-k ≤ n * init-k = mul-le-mul_right init-k h in
-      let s = suc-mul v init-k in
+      let m : suc v * init_k ≤ n * init_k = mul-le-mul_right init_k h in
+      let s = suc-mul v init_k in
       omega arith
 
-  pub length-list : length (list_of lists init-k count v) ≡ count
+  pub length-list : length (list_of lists init_k count v) ≡ count
   unfolding list_of
   length-list =
       let room = from-room in
       let fewer = linked.fewer in
-      length-take-le count (drop (v * init-k) lists) (simp length-drop (omega arith))
+      length-take-le count (drop (v * init_k) lists) (simp length-drop (omega arith))
 
-  pub getD-list : (i z : ℕ) → i < count → get_or (list_of lists init-k count v) i z ≡ get_or lists (v * init-k + i) z
+  pub get_d_list : (i z : ℕ) → i < count → get_or (list_of lists init_k count v) i z ≡ get_or lists (v * init_k + i) z
   unfolding list_of
-  getD-list i z l = get_or-take count (drop (v * init-k) lists) i z l ∙ get_or-drop (v * init-k) lists i z
+  get_d_list i z l = get_or-take count (drop (v * init_k) lists) i z l ∙ get_or-drop (v * init_k) lists i z
 
-  pub member_below : (i z : ℕ) → i < count → get_or lists (v * init-k + i) z < n
+  pub member_below : (i z : ℕ) → i < count → get_or lists (v * init_k + i) z < n
   member_below i z l =
       let long = length-list in
-      rw (getD-list i z l) at (all-at (λ (x : ℕ). x < n) (list_of lists init-k count v) i z (linked.below v h) (omega arith))
+      rw (get_d_list i z l) at (all-at (λ (x : ℕ). x < n) (list_of lists init_k count v) i z (linked.below v h) (omega arith))
 
 -- ---- the members of candidates
 
@@ -293,7 +293,7 @@ module _ (P : ℕ → Type 0) where
 
   -- what holds of q and is handed on to the members of a list holds of every candidate
   pub all-candidates : (lists : ℕ → List ℕ) (limit q : ℕ) → ((v : ℕ) → P v → All P (lists v)) → P q → All P (candidates lists limit q)
-  unfolding candidates twoHops
+  unfolding candidates two_hops
   all-candidates lists limit q g Q =
       all-through taking all-taking (lists q)
       (through (λ (member : ℕ) (taken : List ℕ). through (hop limit q) (lists member) taken) (lists q) []) (g q Q)
@@ -309,7 +309,7 @@ through-each f g [] taken M = refl
 through-each f g (m ∷ ms) taken M = ap (through f ms) (M.0 taken) ∙ through-each f g ms (g m taken) M.1
 
 pub candidates-same : (f g : ℕ → List ℕ) (n limit q : ℕ) → ((v : ℕ) → v < n → f v ≡ g v) → All (λ (v : ℕ). v < n) (f q) → q < n → candidates f limit q ≡ candidates g limit q
-unfolding candidates twoHops
+unfolding candidates two_hops
 candidates-same f g n limit q same below h =
     let walk : (ℕ → List ℕ) → ℕ → List ℕ → List ℕ = λ (lists : ℕ → List ℕ) (member : ℕ) (taken : List ℕ). through (hop limit q) (lists member) taken in
     ap (through taking (f q))
@@ -321,7 +321,7 @@ candidates-same f g n limit q same below h =
 -- ---- the whole
 
 module _ (lists : ℕ → List ℕ) (count limit q : ℕ) {flags out flags₁ out₁ : List ℕ} {hopped : ℕ} {flags₂ out₂ : List ℕ} {r : ℕ}
-    (first : Took (twoHops lists limit q) limit flags out 0 flags₁ out₁ hopped)
+    (first : Took (two_hops lists limit q) limit flags out 0 flags₁ out₁ hopped)
     (second : Took (through taking (lists q) (take hopped out₁)) (hopped + count) flags₁ out₁ hopped flags₂ out₂ r) where
   -- the candidates, still flagged
   pub both : Took (candidates lists limit q) (limit + count) flags out 0 flags₂ out₂ r
@@ -329,7 +329,7 @@ module _ (lists : ℕ → List ℕ) (count limit q : ℕ) {flags out flags₁ ou
   both =
       let u = first.within in
       let v = second.within in
-      took-as (ap (through taking (lists q)) first.list) (omega arith) (took-then first second)
+      took_as (ap (through taking (lists q)) first.list) (omega arith) (took_then first second)
 
   pub below_both : ((v : ℕ) → v < length flags → All (λ (i : ℕ). i < length flags) (lists v)) → q < length flags → All (λ (v : ℕ). v < length flags) (take r out₂)
   below_both below h =
@@ -343,5 +343,5 @@ module _ (lists : ℕ → List ℕ) (count limit q : ℕ) {flags out flags₁ ou
         within = both.within;
         same = e ∙ ap (λ (n : ℕ). replicate n 0) both.flags_long ∙ sym zeros;
         rest = both.rest;
-        long = both.out-long;
+        long = both.out_long;
       }

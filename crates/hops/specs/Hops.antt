@@ -7,13 +7,13 @@ use Rattle.lists.specs.All.{All}
 
 -- the list of node v: the lists lie init-k places apart, each count long
 unfoldable pub list_of : List ℕ → ℕ → ℕ → ℕ → List ℕ
-list_of lists init-k count v = take count (drop (v * init-k) lists)
+list_of lists init_k count v = take count (drop (v * init_k) lists)
 
 -- the lists of n nodes, their members below n
-pub record Linked (lists : List ℕ) (init-k count n : ℕ) : Type 0 where
-  pub room : n * init-k ≤ length lists
-  pub fewer : count ≤ init-k
-  pub below : (v : ℕ) → v < n → All (λ (i : ℕ). i < n) (list_of lists init-k count v)
+pub record Linked (lists : List ℕ) (init_k count n : ℕ) : Type 0 where
+  pub room : n * init_k ≤ length lists
+  pub fewer : count ≤ init_k
+  pub below : (v : ℕ) → v < n → All (λ (i : ℕ). i < n) (list_of lists init_k count v)
 
 -- a flag for each of n nodes, 1 where it is taken
 unfoldable pub flags_of : ℕ → List ℕ → List ℕ
@@ -30,7 +30,7 @@ pub record Took (goal : List ℕ) (most : ℕ) (flags out : List ℕ) (len : ℕ
   pub within : r ≤ most
   pub rest : drop r out' ≡ drop r out
   pub flags_long : length flags' ≡ length flags
-  pub out-long : length out' ≡ length out
+  pub out_long : length out' ≡ length out
 
 -- the candidates of q in the first r places of out, and the flags as they were
 pub record Candidates (lists : ℕ → List ℕ) (count limit q : ℕ) (flags out flags' out' : List ℕ) (r : ℕ) : Type 0 where

@@ -1,7 +1,7 @@
 // Step 2 of build: the two-hop candidates of a node, over the exact lists of all nodes in one slice.
 ghost use Rattle.std.specs.Prelude.{◌≡◌, ◌+◌, ◌≤◌, ◌<◌, length, take, replicate};
 ghost use Rattle.rules.specs.Loops.{through};
-ghost use Rattle.rules.specs.Build.{taking, hop, twoHops};
+ghost use Rattle.rules.specs.Build.{taking, hop, two_hops};
 ghost use Rattle.lists.specs.All.{All};
 ghost use Rattle.hops.specs.Hops.{list_of, Linked, Flagged, Took, Candidates};
 
@@ -72,7 +72,7 @@ fn two_hops(
 ) -> usize
     requires linked { Linked lists.now init_k count (length flags.old) × (q.0 < length flags.old) }
     requires flagged { Flagged flags.old (take 0 out.old) × (limit ≤ length out.old) }
-    ensures { Took (twoHops (list_of lists.now init_k count) limit q.0) limit flags.old out.old 0 flags.new out.new result }
+    ensures { Took (two_hops (list_of lists.now init_k count) limit q.0) limit flags.old out.old 0 flags.new out.new result }
 {
     let from = q.0 as usize * init_k;
     let mut taken = 0;

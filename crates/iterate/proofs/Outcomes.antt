@@ -14,52 +14,52 @@ use Rattle.rules.specs.declared.IterateAnswer.TheVariants.{Iterated, Refused}
 use Rattle.rules.specs.declared.Refusal.{Refusal}
 use Rattle.rules.specs.declared.Refusal.TheVariants.{State}
 use Rattle.rules.specs.Distance.{between, zero32}
-use Rattle.rules.specs.Refusals.{Code, Row, Decision, passed, refused, code_of, said_of, decide, decisionOf, row1, row2, row3, row4, row6, row10, row11, row12}
-use Rattle.rules.specs.Calls.{descentRows, beginRows, iterateRows}
-use Rattle.rules.specs.DescentPlaces.{descentFormed}
-use Rattle.rules.specs.DescentCall.{DescentLent, descentKept, descentWritten, BeginOutcome, beginTable, beginObeys, beginRule, IterateOutcome, iterateTable, iterateSaid, iterateEnds, iterateObeys, iterateRule}
-use Rattle.rules.proofs.Answers.{same-iterate}
+use Rattle.rules.specs.Refusals.{Code, Row, Decision, passed, refused, code_of, said_of, decide, decision_of, row1, row2, row3, row4, row6, row10, row11, row12}
+use Rattle.rules.specs.Calls.{descent_rows, begin_rows, iterate_rows}
+use Rattle.rules.specs.DescentPlaces.{descent_formed}
+use Rattle.rules.specs.DescentCall.{DescentLent, descent_kept, descent_written, BeginOutcome, begin_table, begin_obeys, begin_rule, IterateOutcome, iterate_table, iterate_said, iterate_ends, iterate_obeys, iterate_rule}
+use Rattle.rules.proofs.Answers.{same_iterate}
 use Rattle.lists.specs.All.{All}
 use Rattle.encoded.specs.Words.{Binary32}
-use Rattle.descent_kept.proofs.Calls.{begin-leaves, iterate-leaves}
+use Rattle.descent_kept.proofs.Calls.{begin_leaves, iterate_leaves}
 use Rattle.descent.specs.Descent.{BegunAll}
 use Rattle.descent.proofs.Outcomes.{Same}
 use Rattle.iterates.specs.Iterates.{IteratedIn}
-use Rattle.iterate.specs.Iterate.{iterateLeft, IteratedAll}
+use Rattle.iterate.specs.Iterate.{iterate_left, IteratedAll}
 
 module _ (l : DescentLent) where
-  pub iterate-refused : {a : Answer} {r : Refusal} → decisionOf a ≡ decide (iterateTable l) → a ≡ answer.Refused r → IteratedAll l (Refused r) l.state-u l.state-f l.scratch-u l.scratch-f
-  unfolding iterateRule iterateObeys descentKept iterateSaid decisionOf
-  iterate-refused {a} {r} e f = record { whole = ap (iterateObeys l) (sym (ap decisionOf f) ∙ e) }
+  pub iterate_refused : {a : Answer} {r : Refusal} → decision_of a ≡ decide (iterate_table l) → a ≡ answer.Refused r → IteratedAll l (Refused r) l.state_u l.state_f l.scratch_u l.scratch_f
+  unfolding iterate_rule iterate_obeys descent_kept iterate_said decision_of
+  iterate_refused {a} {r} e f = record { whole = ap (iterate_obeys l) (sym (ap decision_of f) ∙ e) }
 
-  pub no_row : {a : Answer} → decisionOf a ≡ decide (iterateTable l) → a ≡ answer.Done → decide (iterateTable l) ≡ passed
-  unfolding decisionOf
-  no_row e f = sym e ∙ ap decisionOf f
+  pub no_row : {a : Answer} → decision_of a ≡ decide (iterate_table l) → a ≡ answer.Done → decide (iterate_table l) ≡ passed
+  unfolding decision_of
+  no_row e f = sym e ∙ ap decision_of f
 
-  pub iterate-done : {us ws su : List ℕ} {fs sf : List Float} {cost new : ℕ} → decide (iterateTable l) ≡ passed
-      → IteratedIn (between l.lanes l.dimension) l.draws l.n l.k l.s l.state-u l.state-f l.scratch-u us fs ws cost new
-      → su ≡ replicate (length ws) 0 → sf ≡ replicate (length l.scratch-f) zero32 → IteratedAll l (Iterated cost new) us fs su sf
-  unfolding iterateRule iterateObeys iterateEnds descentWritten iterateSaid
-  iterate-done e i p q =
+  pub iterate_done : {us ws su : List ℕ} {fs sf : List Float} {cost new : ℕ} → decide (iterate_table l) ≡ passed
+      → IteratedIn (between l.lanes l.dimension) l.draws l.n l.k l.s l.state_u l.state_f l.scratch_u us fs ws cost new
+      → su ≡ replicate (length ws) 0 → sf ≡ replicate (length l.scratch_f) zero32 → IteratedAll l (Iterated cost new) us fs su sf
+  unfolding iterate_rule iterate_obeys iterate_ends descent_written iterate_said
+  iterate_done e i p q =
       let a = i.words in
       let b = i.floats in
       let c = i.counted in
       let t = i.totalled in
-      let w = i.scratch-long in
+      let w = i.scratch_long in
       record { whole = rw (e, a, b, c, t, p, w, q) }
 
 -- ---- "show that any two outcomes it allows are equal"
 
-pub two-outcomes : (l : DescentLent) (a b : IterateAnswer) (us us' : List ℕ) (fs fs' : List Float) (su su' : List ℕ) (sf sf' : List Float)
+pub two_outcomes : (l : DescentLent) (a b : IterateAnswer) (us us' : List ℕ) (fs fs' : List Float) (su su' : List ℕ) (sf sf' : List Float)
     → IteratedAll l a us fs su sf → IteratedAll l b us' fs' su' sf' → Same IterateAnswer a b us us' fs fs' su su' sf sf'
-two-outcomes l a b us us' fs fs' su su' sf sf' p q =
-    let e : iterateLeft a us fs su sf ≡ iterateLeft b us' fs' su' sf' = p.whole ∙ sym q.whole in
+two_outcomes l a b us us' fs fs' su su' sf sf' p q =
+    let e : iterate_left a us fs su sf ≡ iterate_left b us' fs' su' sf' = p.whole ∙ sym q.whole in
     record {
-      answer = same-iterate a b (ap (λ (o : IterateOutcome). o.said) e);
-      state-u = ap (λ (o : IterateOutcome). o.left.state-u) e;
-      state-f = ap (λ (o : IterateOutcome). o.left.state-f) e;
-      scratch-u = ap (λ (o : IterateOutcome). o.left.scratch-u) e;
-      scratch-f = ap (λ (o : IterateOutcome). o.left.scratch-f) e;
+      answer = same_iterate a b (ap (λ (o : IterateOutcome). o.said) e);
+      state_u = ap (λ (o : IterateOutcome). o.left.state_u) e;
+      state_f = ap (λ (o : IterateOutcome). o.left.state_f) e;
+      scratch_u = ap (λ (o : IterateOutcome). o.left.scratch_u) e;
+      scratch_f = ap (λ (o : IterateOutcome). o.left.scratch_f) e;
     }
 
 -- ---- what a begin or an iteration leaves, the next iteration does not refuse with 12
@@ -90,67 +90,67 @@ all-passed rs F h = go (decide rs) refl h
     go passed e k = refl
     go (refused c) e k = absurd (other 0 rs F c e k)
 
-iterate-number : (l : DescentLent) (d : Decision) → (iterateObeys l d).said.code.number ≡ number_of d
-unfolding iterateObeys iterateEnds number_of
-iterate-number l passed = refl
-iterate-number l (refused c) = refl
+iterate_number : (l : DescentLent) (d : Decision) → (iterate_obeys l d).said.code.number ≡ number_of d
+unfolding iterate_obeys iterate_ends number_of
+iterate_number l passed = refl
+iterate_number l (refused c) = refl
 
-begin-number : (l : DescentLent) (d : Decision) → (beginObeys l d).said.number ≡ number_of d
-unfolding beginObeys number_of
-begin-number l passed = refl
-begin-number l (refused c) = refl
+begin_number : (l : DescentLent) (d : Decision) → (begin_obeys l d).said.number ≡ number_of d
+unfolding begin_obeys number_of
+begin_number l passed = refl
+begin_number l (refused c) = refl
 
 module _ (l : DescentLent) where
-  begin-others : All (Other 0) (beginTable l)
-  unfolding beginTable beginRows descentRows row1 row2 row3 row4 row6 row10 row11
-  begin-others = (λ t h. omega arith, (λ t h. omega arith, (λ t h. omega arith, (λ t h. omega arith, (λ t h. omega arith, (λ t h. omega arith, (λ t h. omega arith, tt)))))))
+  begin_others : All (Other 0) (begin_table l)
+  unfolding begin_table begin_rows descent_rows row1 row2 row3 row4 row6 row10 row11
+  begin_others = (λ t h. omega arith, (λ t h. omega arith, (λ t h. omega arith, (λ t h. omega arith, (λ t h. omega arith, (λ t h. omega arith, (λ t h. omega arith, tt)))))))
 
-  iterate-others : All (Other 0) (iterateTable l)
-  unfolding iterateTable iterateRows descentRows row1 row2 row3 row4 row6 row10 row11 row12
-  iterate-others = (λ t h. omega arith, (λ t h. omega arith, (λ t h. omega arith, (λ t h. omega arith, (λ t h. omega arith, (λ t h. omega arith, (λ t h. omega arith, (λ t h. omega arith, tt))))))))
+  iterate_others : All (Other 0) (iterate_table l)
+  unfolding iterate_table iterate_rows descent_rows row1 row2 row3 row4 row6 row10 row11 row12
+  iterate_others = (λ t h. omega arith, (λ t h. omega arith, (λ t h. omega arith, (λ t h. omega arith, (λ t h. omega arith, (λ t h. omega arith, (λ t h. omega arith, (λ t h. omega arith, tt))))))))
 
-  state-others : descentFormed l.n l.k l.state-u l.state-f ≡ true → All (Other 12) (iterateTable l)
-  unfolding iterateTable iterateRows descentRows row1 row2 row3 row4 row6 row10 row11 row12
+  state-others : descent_formed l.n l.k l.state_u l.state_f ≡ true → All (Other 12) (iterate_table l)
+  unfolding iterate_table iterate_rows descent_rows row1 row2 row3 row4 row6 row10 row11 row12
   state-others w =
       (λ t h. omega arith, (λ t h. omega arith, (λ t h. omega arith, (λ t h. omega arith, (λ t h. omega arith, (λ t h. omega arith, (λ t h. omega arith, (λ t h. let e = sym w ∙ not-true _ t in let z : ◌≡◌ {A = ℕ} 0 1 = cc in omega arith, tt))))))))
 
-  begun-passed : {us su : List ℕ} {fs sf : List Float} → BegunAll l answer.Done us fs su sf → decide (beginTable l) ≡ passed
-  unfolding beginRule said_of
-  begun-passed b = all-passed (beginTable l) begin-others (sym (ap (λ (o : BeginOutcome). o.said.number) b.whole ∙ begin-number l (decide (beginTable l))))
+  begun-passed : {us su : List ℕ} {fs sf : List Float} → BegunAll l answer.Done us fs su sf → decide (begin_table l) ≡ passed
+  unfolding begin_rule said_of
+  begun-passed b = all-passed (begin_table l) begin_others (sym (ap (λ (o : BeginOutcome). o.said.number) b.whole ∙ begin_number l (decide (begin_table l))))
 
-  iterated-passed : {us su : List ℕ} {fs sf : List Float} {cost new : ℕ} → IteratedAll l (Iterated cost new) us fs su sf → decide (iterateTable l) ≡ passed
-  unfolding iterateRule iterateSaid
-  iterated-passed i = all-passed (iterateTable l) iterate-others (sym (ap (λ (o : IterateOutcome). o.said.code.number) i.whole ∙ iterate-number l (decide (iterateTable l))))
+  iterated-passed : {us su : List ℕ} {fs sf : List Float} {cost new : ℕ} → IteratedAll l (Iterated cost new) us fs su sf → decide (iterate_table l) ≡ passed
+  unfolding iterate_rule iterate_said
+  iterated-passed i = all-passed (iterate_table l) iterate_others (sym (ap (λ (o : IterateOutcome). o.said.code.number) i.whole ∙ iterate_number l (decide (iterate_table l))))
 
   -- a well-formed state is not refused with 12
-  pub not-state : descentFormed l.n l.k l.state-u l.state-f ≡ true → {us su : List ℕ} {fs sf : List Float} → IteratedAll l (Refused State) us fs su sf → ⊥
-  unfolding iterateRule iterateSaid code_of number_of
-  not-state w i = go (decide (iterateTable l)) refl (ap (λ (o : IterateOutcome). o.said.code.number) i.whole ∙ iterate-number l (decide (iterateTable l)))
+  pub not-state : descent_formed l.n l.k l.state_u l.state_f ≡ true → {us su : List ℕ} {fs sf : List Float} → IteratedAll l (Refused State) us fs su sf → ⊥
+  unfolding iterate_rule iterate_said code_of number_of
+  not-state w i = go (decide (iterate_table l)) refl (ap (λ (o : IterateOutcome). o.said.code.number) i.whole ∙ iterate_number l (decide (iterate_table l)))
     where
-      go : (d : Decision) → decide (iterateTable l) ≡ d → 12 ≡ number_of d → ⊥
+      go : (d : Decision) → decide (iterate_table l) ≡ d → 12 ≡ number_of d → ⊥
       go passed e h = omega arith
-      go (refused c) e h = other 12 (iterateTable l) (state-others w) c e (sym h)
+      go (refused c) e h = other 12 (iterate_table l) (state-others w) c e (sym h)
 
 -- the same sizes, on the state as it was left
 pub record Follows (l next : DescentLent) (us : List ℕ) (fs : List Float) : Type 0 where
   pub nodes : next.n ≡ l.n
   pub places : next.k ≡ l.k
-  pub words : next.state-u ≡ us
-  pub floats : next.state-f ≡ fs
+  pub words : next.state_u ≡ us
+  pub floats : next.state_f ≡ fs
 
 module _ (l next : DescentLent) {us : List ℕ} {fs : List Float} (f : Follows l next us fs) where
-  follows-formed : descentFormed l.n l.k us fs ≡ true → descentFormed next.n next.k next.state-u next.state-f ≡ true
-  follows-formed h = let a = f.nodes in let b = f.places in let c = f.words in let d = f.floats in rw (a, b, c, d) h
+  follows_formed : descent_formed l.n l.k us fs ≡ true → descent_formed next.n next.k next.state_u next.state_f ≡ true
+  follows_formed h = let a = f.nodes in let b = f.places in let c = f.words in let d = f.floats in rw (a, b, c, d) h
 
-  pub after-begin : {su us' su' : List ℕ} {sf fs' sf' : List Float} → BegunAll l answer.Done us fs su sf → IteratedAll next (Refused State) us' fs' su' sf' → ⊥
-  after-begin b i =
-      let p = ap (λ (o : BeginOutcome). o.left.state-u) b.whole in
-      let q = ap (λ (o : BeginOutcome). o.left.state-f) b.whole in
-      not-state next (follows-formed (rw (p, q) (begin-leaves l (begun-passed l b)))) i
+  pub after_begin : {su us' su' : List ℕ} {sf fs' sf' : List Float} → BegunAll l answer.Done us fs su sf → IteratedAll next (Refused State) us' fs' su' sf' → ⊥
+  after_begin b i =
+      let p = ap (λ (o : BeginOutcome). o.left.state_u) b.whole in
+      let q = ap (λ (o : BeginOutcome). o.left.state_f) b.whole in
+      not-state next (follows_formed (rw (p, q) (begin_leaves l (begun-passed l b)))) i
 
   -- what an f32 slice holds are values of binary32
-  pub after-iterate : {cost new : ℕ} {su us' su' : List ℕ} {sf fs' sf' : List Float} → Binary32 l.state-f → IteratedAll l (Iterated cost new) us fs su sf → IteratedAll next (Refused State) us' fs' su' sf' → ⊥
-  after-iterate B b i =
-      let p = ap (λ (o : IterateOutcome). o.left.state-u) b.whole in
-      let q = ap (λ (o : IterateOutcome). o.left.state-f) b.whole in
-      not-state next (follows-formed (rw (p, q) (iterate-leaves l B (iterated-passed l b)))) i
+  pub after_iterate : {cost new : ℕ} {su us' su' : List ℕ} {sf fs' sf' : List Float} → Binary32 l.state_f → IteratedAll l (Iterated cost new) us fs su sf → IteratedAll next (Refused State) us' fs' su' sf' → ⊥
+  after_iterate B b i =
+      let p = ap (λ (o : IterateOutcome). o.left.state_u) b.whole in
+      let q = ap (λ (o : IterateOutcome). o.left.state_f) b.whole in
+      not-state next (follows_formed (rw (p, q) (iterate_leaves l B (iterated-passed l b)))) i

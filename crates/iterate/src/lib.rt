@@ -1,9 +1,9 @@
 // The entry `iterate` of a descent: the refusal table, one iteration, and scratch zeroed.
 ghost use Rattle.std.specs.Prelude.{◌≡◌, length};
-ghost use Rattle.rules.specs.Distance.{nodesApart};
-ghost use Rattle.rules.specs.Refusals.{decide, decisionOf};
-ghost use Rattle.rules.specs.Calls.{scratch, iterateRows};
-ghost use Rattle.rules.specs.DescentPlaces.{descentFormed};
+ghost use Rattle.rules.specs.Distance.{nodes_apart};
+ghost use Rattle.rules.specs.Refusals.{decide, decision_of};
+ghost use Rattle.rules.specs.Calls.{scratch, iterate_rows};
+ghost use Rattle.rules.specs.DescentPlaces.{descent_formed};
 ghost use Rattle.descent.specs.Descent.{lent};
 ghost use Rattle.iterate.specs.Iterate.{IteratedAll};
 
@@ -22,7 +22,7 @@ fn judge(
     words: usize,
     floats: usize,
 ) -> Answer
-    ensures { decisionOf result ≡ decide (iterateRows dimension n (length lanes.now) k s (length state_u.now) (length state_f.now) (scratch words floats) (nodesApart lanes.now dimension) draws (descentFormed n k state_u.now state_f.now)) }
+    ensures { decision_of result ≡ decide (iterate_rows dimension n (length lanes.now) k s (length state_u.now) (length state_f.now) (scratch words floats) (nodes_apart lanes.now dimension) draws (descent_formed n k state_u.now state_f.now)) }
 {
     let g = descent::judge(
         dimension,

@@ -10,21 +10,21 @@ use lib.Ieee.{Float}
 use borrow.Rule.Slice.PartMut.{mid_of}
 use Rattle.rules.specs.Loops.{over}
 use Rattle.rules.specs.Build.{Between}
-use Rattle.rules.specs.Offers.{listsFormed}
+use Rattle.rules.specs.Offers.{lists_formed}
 use Rattle.rules.specs.Descent.{Context, meet_all}
-use Rattle.rules.specs.Places.{listsIn}
-use Rattle.rules.specs.DescentPlaces.{descentIn}
+use Rattle.rules.specs.Places.{lists_in}
+use Rattle.rules.specs.DescentPlaces.{descent_in}
 use Rattle.rules.proofs.Tests.{both}
 use Rattle.zeros.specs.Zeros.{all_below}
-use Rattle.meets.specs.Meets.{marksAt, Game, Holds, Does}
-use Rattle.passes.specs.Passes.{contextsIn, ManyContexted}
+use Rattle.meets.specs.Meets.{marks_at, Game, Holds, Does}
+use Rattle.passes.specs.Passes.{contexts_in, ManyContexted}
 use Rattle.descent_state.specs.State.{Sized}
-use Rattle.descent_state.proofs.Contexts.{listTest}
+use Rattle.descent_state.proofs.Contexts.{list_test}
 use Rattle.descent_state.proofs.Whole.{whole_is}
-use Rattle.descent_kept.proofs.Back.{pairs-in}
+use Rattle.descent_kept.proofs.Back.{pairs_in}
 use Rattle.descent_kept.proofs.Tested.{Tested, tested}
 use Rattle.iterates.specs.Iterates.{Fit, unmet, MetIn}
-use Rattle.iterates.proofs.Contexts.{contexts-copied, contexts-walkable}
+use Rattle.iterates.proofs.Contexts.{contexts_copied, contexts_walkable}
 
 module _ {dimension n k : ℕ} {lanes : List Float} {us : List ℕ} {fs : List Float} (game : Game dimension n k lanes us fs) (good : Fit n k us fs) where
   sized : Sized n k us fs
@@ -33,18 +33,18 @@ module _ {dimension n k : ℕ} {lanes : List Float} {us : List ℕ} {fs : List F
   pub read : Tested n k us fs good.floats game.words game.floats
   read = tested n k us fs good.floats game.words game.floats good.formed
 
-  lists-good : all_below (listTest n (n * k) us) (4 * n) ≡ true
-  lists-good =
+  lists_good : all_below (list_test n (n * k) us) (4 * n) ≡ true
+  lists_good =
       let w = sym (whole_is sized good.words) ∙ good.formed in
-      (both (all_below (listTest n (n * k) us) (4 * n)) _ (both (listsFormed n (listsIn n k us fs)) _ w).1).0
+      (both (all_below (list_test n (n * k) us) (4 * n)) _ (both (lists_formed n (lists_in n k us fs)) _ w).1).0
 
   -- before any pair meets
-  pub unmet-holds : Holds n k (unmet (descentIn n k us fs)) us fs 0
-  unfolding descentIn
+  pub unmet-holds : Holds n k (unmet (descent_in n k us fs)) us fs 0
+  unfolding descent_in
   unmet-holds =
       record {
         lists = refl;
-        marks = record { words = ap (drop (marksAt n k)) read.words ∙ pairs-in n k (descentIn n k us fs) read.formed.fitting; long = read.formed.fitting.pairs };
+        marks = record { words = ap (drop (marks_at n k)) read.words ∙ pairs_in n k (descent_in n k us fs) read.formed.fitting; long = read.formed.fitting.pairs };
         counted = refl;
       }
 
@@ -58,16 +58,16 @@ module _ {dimension n k : ℕ} {lanes : List Float} {us : List ℕ} {fs : List F
         ap (take (260 * n)) (copied ∙ rw ea (ap (λ (ys : List ℕ). ys ++ drop (260 * n) ws) (take-take (260 * n) (260 * n) (drop (n * k) us) (omega arith))))
         ∙ take_at (take (260 * n) (drop (n * k) us)) (drop (260 * n) ws) (260 * n) l
 
-    pub walkable-copy : 260 * n ≤ length ws' → ManyContexted n ws'
-    walkable-copy h = contexts-walkable n (n * k) us ws' front h lists-good
+    pub walkable_copy : 260 * n ≤ length ws' → ManyContexted n ws'
+    walkable_copy h = contexts_walkable n (n * k) us ws' front h lists_good
 
-    pub met-in : (d : Between) {us' : List ℕ} {fs' : List Float} {cost : ℕ} → 260 * n ≤ length ws' → length ws' ≡ length ws → Does n k (n * 28672) (meet_all d n k (contextsIn n ws')) us fs 0 us' fs' cost
+    pub met_in : (d : Between) {us' : List ℕ} {fs' : List Float} {cost : ℕ} → 260 * n ≤ length ws' → length ws' ≡ length ws → Does n k (n * 28672) (meet_all d n k (contexts_in n ws')) us fs 0 us' fs' cost
         → MetIn d n k us fs ws us' fs' ws' cost
-    unfolding descentIn
-    met-in d {us'} {fs'} {cost} h l does =
+    unfolding descent_in
+    met_in d {us'} {fs'} {cost} h l does =
         record {
-          held = subst (λ (cs : List Context). Holds n k (meet_all d n k cs (unmet (descentIn n k us fs))) us' fs' cost) (contexts-copied n (n * k) us ws' front h lists-good) (does.held (unmet (descentIn n k us fs)) unmet-holds);
+          held = subst (λ (cs : List Context). Holds n k (meet_all d n k cs (unmet (descent_in n k us fs))) us' fs' cost) (contexts_copied n (n * k) us ws' front h lists_good) (does.held (unmet (descent_in n k us fs)) unmet-holds);
           words_long = does.words_long;
-          floats-long = does.floats-long;
-          scratch-long = l;
+          floats_long = does.floats_long;
+          scratch_long = l;
         }

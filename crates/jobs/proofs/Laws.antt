@@ -9,27 +9,27 @@ use lib.Dec.{eqb, leb, ltb}
 use lib.ListN.{length, take, drop, get_or}
 use lib.Ieee.{Float, nan, binary32, to_bits}
 use Rattle.rules.specs.Distance.{fit}
-use Rattle.rules.specs.Relay.{steps_of, taken_of, longerOf, bit}
+use Rattle.rules.specs.Relay.{steps_of, taken_of, longer_of, bit}
 use Rattle.rules.specs.Places.{padded, same_words}
-use Rattle.rules.specs.RelayPlaces.{jobWords, jobIn, stageIn, stageFormed, jobFormed}
+use Rattle.rules.specs.RelayPlaces.{job_words, job_in, stage_in, stage_formed, job_formed}
 use Rattle.rules.proofs.Tests.{both, same_truth}
 use Rattle.zeros.specs.Zeros.{zeros}
-use Rattle.jobs.specs.Jobs.{halfFormed, distanceFormed, jobTest, PendingHalf, PendingJob}
+use Rattle.jobs.specs.Jobs.{half_formed, distance_formed, job_test, PendingHalf, PendingJob}
 
 -- ---- the steps done of both halves add up to those of the job, where those are at most 8
 
-steps-test : (s : ℕ) (a b c d : Bool) → eqb s (steps_of (stageIn s a b) + steps_of (stageIn (s - 4) c d)) ≡ leb s 8
-unfolding steps_of stageIn
-steps-test zero a b c d = refl
-steps-test (suc zero) a b c d = refl
-steps-test (suc (suc zero)) a b c d = refl
-steps-test (suc (suc (suc zero))) a b c d = refl
-steps-test (suc (suc (suc (suc zero)))) a b c d = refl
-steps-test (suc (suc (suc (suc (suc zero))))) a b c d = refl
-steps-test (suc (suc (suc (suc (suc (suc zero)))))) a b c d = refl
-steps-test (suc (suc (suc (suc (suc (suc (suc zero))))))) a b c d = refl
-steps-test (suc (suc (suc (suc (suc (suc (suc (suc zero)))))))) a b c d = refl
-steps-test (suc (suc (suc (suc (suc (suc (suc (suc (suc s))))))))) a b c d =
+steps_test : (s : ℕ) (a b c d : Bool) → eqb s (steps_of (stage_in s a b) + steps_of (stage_in (s - 4) c d)) ≡ leb s 8
+unfolding steps_of stage_in
+steps_test zero a b c d = refl
+steps_test (suc zero) a b c d = refl
+steps_test (suc (suc zero)) a b c d = refl
+steps_test (suc (suc (suc zero))) a b c d = refl
+steps_test (suc (suc (suc (suc zero)))) a b c d = refl
+steps_test (suc (suc (suc (suc (suc zero))))) a b c d = refl
+steps_test (suc (suc (suc (suc (suc (suc zero)))))) a b c d = refl
+steps_test (suc (suc (suc (suc (suc (suc (suc zero))))))) a b c d = refl
+steps_test (suc (suc (suc (suc (suc (suc (suc (suc zero)))))))) a b c d = refl
+steps_test (suc (suc (suc (suc (suc (suc (suc (suc (suc s))))))))) a b c d =
     let many = suc (suc (suc (suc (suc (suc (suc (suc (suc s)))))))) in
     let m : many - 4 ≡ suc (suc (suc (suc (suc s)))) = omega arith in
     rw m (ne_eqb many 8 (λ q. omega arith) ∙ sym (lt-leb many 8 (omega arith)))
@@ -41,9 +41,9 @@ tested n ws x =
     let e = eqb (get_or ws 0 0) (get_or ws 1 0) in
     let s = get_or ws 2 0 in
     leb s 8
-    && (halfFormed e s (get_or ws 3 0) (get_or ws 4 0)
-    && (halfFormed e (s - 4) (get_or ws 5 0) (get_or ws 6 0)
-    && (zeros (take 8 (drop 7 ws)) && ((ltb (get_or ws 0 0) n && ltb (get_or ws 1 0) n) && distanceFormed e x))))
+    && (half_formed e s (get_or ws 3 0) (get_or ws 4 0)
+    && (half_formed e (s - 4) (get_or ws 5 0) (get_or ws 6 0)
+    && (zeros (take 8 (drop 7 ws)) && ((ltb (get_or ws 0 0) n && ltb (get_or ws 1 0) n) && distance_formed e x))))
 
 -- the same tests, as the rulebook has them
 module _ (s8 t l t' l' z b d f f' : Bool) where
@@ -84,17 +84,17 @@ module _ (s8 t l t' l' z b d f f' : Bool) where
 
 -- 15 words, and those behind them
 fifteen : (n : ℕ) (x : Float) (u v s t l t' l' z0 z1 z2 z3 z4 z5 z6 z7 : ℕ) (ws : List ℕ)
-    → let all = u ∷ v ∷ s ∷ t ∷ l ∷ t' ∷ l' ∷ z0 ∷ z1 ∷ z2 ∷ z3 ∷ z4 ∷ z5 ∷ z6 ∷ z7 ∷ ws in jobTest n all x ≡ tested n all x
-unfolding jobTest jobWords jobIn jobFormed padded same_words halfFormed distanceFormed zeros
+    → let all = u ∷ v ∷ s ∷ t ∷ l ∷ t' ∷ l' ∷ z0 ∷ z1 ∷ z2 ∷ z3 ∷ z4 ∷ z5 ∷ z6 ∷ z7 ∷ ws in job_test n all x ≡ tested n all x
+unfolding job_test job_words job_in job_formed padded same_words half_formed distance_formed zeros
 fifteen n x u v s t l t' l' z0 z1 z2 z3 z4 z5 z6 z7 ws =
-    let first = stageIn s (eqb t 1) (eqb l 1) in
-    let second = stageIn (s - 4) (eqb t' 1) (eqb l' 1) in
-    rw (eq-eqb u u refl, eq-eqb v v refl, steps-test s (eqb t 1) (eqb l 1) (eqb t' 1) (eqb l' 1))
-    (regroup (leb s 8) (eqb t (bit (taken_of first))) (eqb l (bit (longerOf first))) (eqb t' (bit (taken_of second))) (eqb l' (bit (longerOf second)))
-    (zeros (z0 ∷ z1 ∷ z2 ∷ z3 ∷ z4 ∷ z5 ∷ z6 ∷ z7 ∷ [])) (ltb u n && ltb v n) (distanceFormed (eqb u v) x) (stageFormed (eqb u v) first) (stageFormed (eqb u v) second))
+    let first = stage_in s (eqb t 1) (eqb l 1) in
+    let second = stage_in (s - 4) (eqb t' 1) (eqb l' 1) in
+    rw (eq-eqb u u refl, eq-eqb v v refl, steps_test s (eqb t 1) (eqb l 1) (eqb t' 1) (eqb l' 1))
+    (regroup (leb s 8) (eqb t (bit (taken_of first))) (eqb l (bit (longer_of first))) (eqb t' (bit (taken_of second))) (eqb l' (bit (longer_of second)))
+    (zeros (z0 ∷ z1 ∷ z2 ∷ z3 ∷ z4 ∷ z5 ∷ z6 ∷ z7 ∷ [])) (ltb u n && ltb v n) (distance_formed (eqb u v) x) (stage_formed (eqb u v) first) (stage_formed (eqb u v) second))
 
 -- a list of m and more begins with m
-pub job-test : (n : ℕ) (ws : List ℕ) (x : Float) → 15 ≤ length ws → jobTest n ws x ≡ tested n ws x
+pub job-test : (n : ℕ) (ws : List ℕ) (x : Float) → 15 ≤ length ws → job_test n ws x ≡ tested n ws x
 job-test n (u ∷ v ∷ s ∷ t ∷ l ∷ t' ∷ l' ∷ z0 ∷ z1 ∷ z2 ∷ z3 ∷ z4 ∷ z5 ∷ z6 ∷ z7 ∷ ws) x h = fifteen n x u v s t l t' l' z0 z1 z2 z3 z4 z5 z6 z7 ws
 job-test n [] x h = absurd (omega arith)
 job-test n (u ∷ []) x h = absurd (omega arith)
@@ -118,60 +118,60 @@ module _ (n : ℕ) (ws : List ℕ) (x : Float) (long : 15 ≤ length ws) where
   abbrev same : Bool
   same = eqb (get_or ws 0 0) (get_or ws 1 0)
 
-  pub by-steps : 8 < get_or ws 2 0 → false ≡ jobTest n ws x
-  by-steps h = sym (job-test n ws x long ∙ rw (lt-leb (get_or ws 2 0) 8 h))
+  pub by_steps : 8 < get_or ws 2 0 → false ≡ job_test n ws x
+  by_steps h = sym (job-test n ws x long ∙ rw (lt-leb (get_or ws 2 0) 8 h))
 
   module _ (few : get_or ws 2 0 ≤ 8) where
-    pub by_first : halfFormed same (get_or ws 2 0) (get_or ws 3 0) (get_or ws 4 0) ≡ false → false ≡ jobTest n ws x
+    pub by_first : half_formed same (get_or ws 2 0) (get_or ws 3 0) (get_or ws 4 0) ≡ false → false ≡ job_test n ws x
     by_first h = sym (job-test n ws x long ∙ rw (le-leb (get_or ws 2 0) 8 few, h))
 
     -- m steps of the second half are done
-    module _ (first : halfFormed same (get_or ws 2 0) (get_or ws 3 0) (get_or ws 4 0) ≡ true) (m : ℕ) (cut : m ≡ get_or ws 2 0 - 4) where
-      second_is : halfFormed same m (get_or ws 5 0) (get_or ws 6 0) ≡ halfFormed same (get_or ws 2 0 - 4) (get_or ws 5 0) (get_or ws 6 0)
-      second_is = ap (λ (i : ℕ). halfFormed same i (get_or ws 5 0) (get_or ws 6 0)) cut
+    module _ (first : half_formed same (get_or ws 2 0) (get_or ws 3 0) (get_or ws 4 0) ≡ true) (m : ℕ) (cut : m ≡ get_or ws 2 0 - 4) where
+      second_is : half_formed same m (get_or ws 5 0) (get_or ws 6 0) ≡ half_formed same (get_or ws 2 0 - 4) (get_or ws 5 0) (get_or ws 6 0)
+      second_is = ap (λ (i : ℕ). half_formed same i (get_or ws 5 0) (get_or ws 6 0)) cut
 
-      pub by-second : halfFormed same m (get_or ws 5 0) (get_or ws 6 0) ≡ false → false ≡ jobTest n ws x
-      by-second h = sym (job-test n ws x long ∙ rw (le-leb (get_or ws 2 0) 8 few, first, sym second_is ∙ h))
+      pub by_second : half_formed same m (get_or ws 5 0) (get_or ws 6 0) ≡ false → false ≡ job_test n ws x
+      by_second h = sym (job-test n ws x long ∙ rw (le-leb (get_or ws 2 0) 8 few, first, sym second_is ∙ h))
 
-      module _ (later : halfFormed same m (get_or ws 5 0) (get_or ws 6 0) ≡ true) where
-        pub by-spare : zeros (take 8 (drop 7 ws)) ≡ false → false ≡ jobTest n ws x
-        by-spare h = sym (job-test n ws x long ∙ rw (le-leb (get_or ws 2 0) 8 few, first, sym second_is ∙ later, h))
+      module _ (later : half_formed same m (get_or ws 5 0) (get_or ws 6 0) ≡ true) where
+        pub by_spare : zeros (take 8 (drop 7 ws)) ≡ false → false ≡ job_test n ws x
+        by_spare h = sym (job-test n ws x long ∙ rw (le-leb (get_or ws 2 0) 8 few, first, sym second_is ∙ later, h))
 
         module _ (spare : zeros (take 8 (drop 7 ws)) ≡ true) where
-          pub by-u : n ≤ get_or ws 0 0 → false ≡ jobTest n ws x
-          by-u h = sym (job-test n ws x long ∙ rw (le-leb (get_or ws 2 0) 8 few, first, sym second_is ∙ later, spare, le-ltb (get_or ws 0 0) n h))
+          pub by_u : n ≤ get_or ws 0 0 → false ≡ job_test n ws x
+          by_u h = sym (job-test n ws x long ∙ rw (le-leb (get_or ws 2 0) 8 few, first, sym second_is ∙ later, spare, le-ltb (get_or ws 0 0) n h))
 
-          pub by-v : get_or ws 0 0 < n → n ≤ get_or ws 1 0 → false ≡ jobTest n ws x
-          by-v g h =
+          pub by_v : get_or ws 0 0 < n → n ≤ get_or ws 1 0 → false ≡ job_test n ws x
+          by_v g h =
               sym (job-test n ws x long
               ∙ rw (le-leb (get_or ws 2 0) 8 few, first, sym second_is ∙ later, spare, lt-ltb (get_or ws 0 0) n g, le-ltb (get_or ws 1 0) n h))
 
-          pub by-distance : get_or ws 0 0 < n → get_or ws 1 0 < n → distanceFormed same x ≡ jobTest n ws x
-          by-distance g h =
+          pub by_distance : get_or ws 0 0 < n → get_or ws 1 0 < n → distance_formed same x ≡ job_test n ws x
+          by_distance g h =
               sym (job-test n ws x long
               ∙ rw (le-leb (get_or ws 2 0) 8 few, first, sym second_is ∙ later, spare, lt-ltb (get_or ws 0 0) n g, lt-ltb (get_or ws 1 0) n h))
 
 -- ---- the stored distance
 
 module _ (x : Float) where
-  pub distance-equal : distanceFormed true x ≡ eqb (to_bits binary32 x) 0
-  unfolding distanceFormed
-  distance-equal = refl
+  pub distance_equal : distance_formed true x ≡ eqb (to_bits binary32 x) 0
+  unfolding distance_formed
+  distance_equal = refl
 
-  pub distance-nan : x ≡ nan → distanceFormed false x ≡ false
-  unfolding distanceFormed fit to_bits
+  pub distance-nan : x ≡ nan → distance_formed false x ≡ false
+  unfolding distance_formed fit to_bits
   distance-nan e = rw e
 
-  pub distance-fit : distanceFormed false x ≡ leb (to_bits binary32 x) 0x7F7FFFFE
-  unfolding distanceFormed fit
+  pub distance-fit : distance_formed false x ≡ leb (to_bits binary32 x) 0x7F7FFFFE
+  unfolding distance_formed fit
   distance-fit = refl
 
 -- ---- both halves
 
-pub pending-both : (ws : List ℕ) (w m : ℕ) {a b : ℕ} → m ≡ get_or ws 2 0 - 4 → PendingHalf (get_or ws 0 0) w (get_or ws 2 0) (get_or ws 3 0) a
+pub pending_both : (ws : List ℕ) (w m : ℕ) {a b : ℕ} → m ≡ get_or ws 2 0 - 4 → PendingHalf (get_or ws 0 0) w (get_or ws 2 0) (get_or ws 3 0) a
     → PendingHalf (get_or ws 1 0) w m (get_or ws 5 0) b → PendingJob ws w (a + b)
-unfolding jobIn
-pending-both ws w m {a} {b} e p r =
+unfolding job_in
+pending_both ws w m {a} {b} e p r =
     let q : PendingHalf (get_or ws 1 0) w (get_or ws 2 0 - 4) (get_or ws 5 0) b = rw e at r in
     let f = p.few in
     let g = q.few in

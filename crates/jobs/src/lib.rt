@@ -1,6 +1,6 @@
 // The words of one job of a relay: u, v, the steps done, the report and the measure of each half, 8 spare words of 0.
 ghost use Rattle.std.specs.Prelude.{◌≡◌, ◌-◌, ◌≤◌, length, get_or};
-ghost use Rattle.jobs.specs.Jobs.{halfFormed, distanceFormed, jobTest, PendingHalf, PendingJob, keptWords};
+ghost use Rattle.jobs.specs.Jobs.{half_formed, distance_formed, job_test, PendingHalf, PendingJob, kept_words};
 
 use rules::NodeId;
 
@@ -17,7 +17,7 @@ pub fn second(steps: usize) -> usize
 /// Whether a half's report and measure are what `steps` of it can have left: no report before its look or if u = v, and a yes at
 /// each measure after a push.
 pub fn half_formed(equal: bool, steps: usize, taken: u32, longer: u32) -> bool
-    ensures { result ≡ halfFormed equal steps taken longer }
+    ensures { result ≡ half_formed equal steps taken longer }
 {
     if steps == 0 {
         if taken != 0 {
@@ -41,7 +41,7 @@ pub fn half_formed(equal: bool, steps: usize, taken: u32, longer: u32) -> bool
 
 /// Whether a job's stored distance is fit, and 0.0 where u = v.
 pub fn distance_formed(equal: bool, x: f32) -> bool
-    ensures { result ≡ distanceFormed equal x }
+    ensures { result ≡ distance_formed equal x }
 {
     if equal {
         return zeros::zero_bits(x);
@@ -55,7 +55,7 @@ pub fn distance_formed(equal: bool, x: f32) -> bool
 /// Whether the first 15 words are those of a well-formed job with the stored distance `x`.
 pub fn job_formed(words: &[u32], x: f32, n: usize) -> bool
     requires { 15 ≤ length words.now }
-    ensures { result ≡ jobTest n words.now x }
+    ensures { result ≡ job_test n words.now x }
 {
     let u = NodeId(words[0]);
     let v = NodeId(words[1]);
@@ -115,7 +115,7 @@ pub fn pending(words: &[u32], w: NodeId) -> usize
 /// Keeps what one step of a job left: one more step done, and the report and measure of the half whose words are at `half`.
 pub fn keep(words: &mut [u32], half: usize, taken: u32, longer: u32)
     requires { (15 ≤ length words.old) × (half ≤ 5) × (get_or words.old 2 0 ≤ 7) }
-    ensures { words.new ≡ keptWords words.old half taken longer }
+    ensures { words.new ≡ kept_words words.old half taken longer }
 {
     words[2] += 1;
     words[half] = taken;

@@ -12,7 +12,7 @@ use lib.Ieee.{Float, nan, ne, to_bits}
 use lib.Ieee.Compare.{differs_from_itself}
 use borrow.Author.Tests.{lt-ltb, le-ltb, eqb-true, eqb-false}
 use Rattle.rules.specs.Distance.{lane, total_of, fit, answer, carried, zero32, lanes_of}
-use Rattle.rules.proofs.Loops.{length-ones, getD-ones}
+use Rattle.rules.proofs.Loops.{length-ones, get_d_ones}
 use Rattle.zeros.specs.Zeros.{all_below}
 use Rattle.metrics.proofs.Steps.{turn, ended}
 use Rattle.kernels.specs.Eight.{column, held, PutRow, Holds, Laned, Totals}
@@ -23,16 +23,16 @@ pub length-column : (t d : ℕ) (block : List Float) → length (column t d bloc
 unfolding column
 length-column t d block = length-ones (λ (l : ℕ). get_or block (l * 8 + t) nan) d
 
-pub getD-column : (t d : ℕ) (block : List Float) (l : ℕ) → l < d → get_or (column t d block) l nan ≡ get_or block (l * 8 + t) nan
+pub get_d_column : (t d : ℕ) (block : List Float) (l : ℕ) → l < d → get_or (column t d block) l nan ≡ get_or block (l * 8 + t) nan
 unfolding column
-getD-column t d block l h = getD-ones (λ (l : ℕ). get_or block (l * 8 + t) nan) d l nan h
+get_d_column t d block l h = get_d_ones (λ (l : ℕ). get_or block (l * 8 + t) nan) d l nan h
 
 -- a column is what stands at its places
 pub column-is : (t d : ℕ) (block x : List Float) → length x ≡ d → ((l : ℕ) → l < d → get_or block (l * 8 + t) nan ≡ get_or x l nan) → column t d block ≡ x
 column-is t d block x e h =
     let long = length-column t d block in
     ext_get_or nan (column t d block) x (long ∙ sym e)
-    (λ (l : ℕ) (m : l < length (column t d block)). let n : l < d = omega arith in getD-column t d block l n ∙ h l n)
+    (λ (l : ℕ) (m : l < length (column t d block)). let n : l < d = omega arith in get_d_column t d block l n ∙ h l n)
 
 -- ---- the nodes of a block
 
@@ -51,9 +51,9 @@ pub record Putting (block x : List Float) (t : ℕ) (now : List Float) (l : ℕ)
   pub other : (m u : ℕ) → u < 8 → (u ≡ t → ⊥) → get_or now (m * 8 + u) nan ≡ get_or block (m * 8 + u) nan
   pub long : length now ≡ length block
 
-pub putting-more : {block x : List Float} {t : ℕ} {now : List Float} {l : ℕ} → Putting block x t now l → t < 8 → l * 8 + t < length block
+pub putting_more : {block x : List Float} {t : ℕ} {now : List Float} {l : ℕ} → Putting block x t now l → t < 8 → l * 8 + t < length block
     → Putting block x t (set now (l * 8 + t) (get_or x l nan)) (l + 1)
-putting-more {block} {x} {t} {now} {l} inv h room =
+putting_more {block} {x} {t} {now} {l} inv h room =
     let same = inv.long in
     record {
       own = λ (m : ℕ) (k : m < l + 1). at m k (eqb m l) refl;
@@ -76,7 +76,7 @@ put {block} {x} {t} {now} {l} inv h =
       own = column-is t (length x) now x refl (λ (m : ℕ) (k : m < length x). inv.own m (omega arith));
       other = λ (u : ℕ) (k : u < 8) (n : u ≡ t → ⊥).
           column-is u (length x) now (column u (length x) block) (length-column u (length x) block)
-          (λ (m : ℕ) (j : m < length x). inv.other m u k n ∙ sym (getD-column u (length x) block m j));
+          (λ (m : ℕ) (j : m < length x). inv.other m u k n ∙ sym (get_d_column u (length x) block m j));
     }
 
 -- ---- one lane, added to the first c totals
@@ -86,9 +86,9 @@ pub record Laning (totals block : List Float) (from : ℕ) (x : Float) (now : Li
   pub left : (t : ℕ) → c ≤ t → get_or now t nan ≡ get_or totals t nan
   pub long : length now ≡ 8
 
-pub laning-more : {totals block : List Float} {from : ℕ} {x : Float} {now : List Float} {c : ℕ} (v : Float) → Laning totals block from x now c → c < 8
+pub laning_more : {totals block : List Float} {from : ℕ} {x : Float} {now : List Float} {c : ℕ} (v : Float) → Laning totals block from x now c → c < 8
     → v ≡ lane (get_or now c nan) x (get_or block (from + c) nan) → Laning totals block from x (set now c v) (c + 1)
-laning-more {totals} {block} {from} {x} {now} {c} v inv h e =
+laning_more {totals} {block} {from} {x} {now} {c} v inv h e =
     let same = inv.long in
     record {
       done = λ (t : ℕ) (k : t < c + 1). at t k (eqb t c) refl;
@@ -144,21 +144,21 @@ pub record Summing (x block totals : List Float) (l : ℕ) : Type 0 where
   pub left : (t : ℕ) → t < 8
       → total_of (get_or totals t nan) (drop l x) (drop l (column t (length x) block)) ≡ total_of zero32 x (column t (length x) block)
 
-pub summing-none : (x block : List Float) → Summing x block (replicate 8 zero32) 0
-summing-none x block =
+pub summing_none : (x block : List Float) → Summing x block (replicate 8 zero32) 0
+summing_none x block =
     record {
       left = λ (t : ℕ) (h : t < 8). ap (λ (s : Float). total_of s x (column t (length x) block)) (get_or-replicate 8 t zero32 nan h);
     }
 
-pub summing-more : {x block totals : List Float} {l : ℕ} {totals' : List Float} → Summing x block totals l → l < length x
+pub summing_more : {x block totals : List Float} {l : ℕ} {totals' : List Float} → Summing x block totals l → l < length x
     → Laned totals block (l * 8) (get_or x l nan) 8 totals' → Summing x block totals' (l + 1)
-summing-more {x} {block} {totals} {l} {totals'} inv h made =
+summing_more {x} {block} {totals} {l} {totals'} inv h made =
     record {
       left = λ (t : ℕ) (k : t < 8).
           let col = column t (length x) block in
           let long = length-column t (length x) block in
           ap (λ (s : Float). total_of s (drop (l + 1) x) (drop (l + 1) col))
-          (made t k ∙ ap (lane (get_or totals t nan) (get_or x l nan)) (sym (getD-column t (length x) block l h)))
+          (made t k ∙ ap (lane (get_or totals t nan) (get_or x l nan)) (sym (get_d_column t (length x) block l h)))
           ∙ turn (get_or totals t nan) x col l h (omega arith) ∙ inv.left t k;
     }
 

@@ -40,9 +40,9 @@ abbrev pub all_fit : List Float → Bool
 all_fit totals = all_below (λ (t : ℕ). fit (get_or totals t nan)) 8
 
 -- node j is fit with the eight from base on
-unfoldable pub eightFit : (ℕ → ℕ → Distance) → ℕ → ℕ → ℕ → Bool
-eightFit apart n base j = all_below (λ (t : ℕ). not (unfit (apart j (held n (base + t))))) 8
+unfoldable pub eight_fit : (ℕ → ℕ → Distance) → ℕ → ℕ → ℕ → Bool
+eight_fit apart n base j = all_below (λ (t : ℕ). not (unfit (apart j (held n (base + t))))) 8
 
 -- and so is each node from there on
-unfoldable pub blockFit : (ℕ → ℕ → Distance) → ℕ → ℕ → Bool
-blockFit apart n base = all_below (λ (i : ℕ). eightFit apart n base (base + i)) (n - base)
+unfoldable pub block_fit : (ℕ → ℕ → Distance) → ℕ → ℕ → Bool
+block_fit apart n base = all_below (λ (i : ℕ). eight_fit apart n base (base + i)) (n - base)

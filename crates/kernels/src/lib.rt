@@ -1,8 +1,8 @@
 // Eight nodes at once, their lanes side by side in a local block, or four as they lie: each still summed in lane order with one rounding per operation.
 ghost use Rattle.std.specs.Prelude.{◌≡◌, true, false, [], ◌∷◌, ◌+◌, ◌*◌, ◌≤◌, ◌<◌, length};
-ghost use Rattle.rules.specs.Distance.{lane, fit, answer, carried, nodesApart, between};
-ghost use Rattle.rules.specs.Refusals.{decide, decisionOf, row10};
-ghost use Rattle.kernels.specs.Eight.{held, Held, Laned, PutRow, Holds, Totals, all_fit, blockFit};
+ghost use Rattle.rules.specs.Distance.{lane, fit, answer, carried, nodes_apart, between};
+ghost use Rattle.rules.specs.Refusals.{decide, decision_of, row10};
+ghost use Rattle.kernels.specs.Eight.{held, Held, Laned, PutRow, Holds, Totals, all_fit, block_fit};
 ghost use Rattle.kernels.specs.Four.{Fours, Apart4};
 
 use rules::{Answer, NodeId};
@@ -121,7 +121,7 @@ fn all_fit(totals: [f32; 8]) -> bool
 // Whether the eight nodes from `base` on are fit with every node from there on.
 fn clear(lanes: &[f32], dimension: usize, n: usize, base: usize) -> bool
     requires { (length lanes.now ≡ n * dimension) × (n ≤ 4096) × (dimension ≤ 64) × (base < n) }
-    ensures { result ≡ blockFit (nodesApart lanes.now dimension) n base }
+    ensures { result ≡ block_fit (nodes_apart lanes.now dimension) n base }
 {
     let block = block_of(lanes, dimension, n, base);
     let mut j = base;
@@ -140,7 +140,7 @@ fn clear(lanes: &[f32], dimension: usize, n: usize, base: usize) -> bool
 /// where one is not. Nothing is written but a local block.
 pub fn first_unfit(lanes: &[f32], dimension: usize, n: usize) -> Answer
     requires { (length lanes.now ≡ n * dimension) × (n ≤ 4096) }
-    ensures { decisionOf result ≡ decide (row10 (nodesApart lanes.now dimension) n ∷ []) }
+    ensures { decision_of result ≡ decide (row10 (nodes_apart lanes.now dimension) n ∷ []) }
 {
     if 64 < dimension {
         return metrics::first_unfit(lanes, dimension, n);

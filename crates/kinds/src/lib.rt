@@ -1,6 +1,6 @@
 // Passes one case of each kind, and its parts, by the format of oracle/README.md.
 ghost use Rattle.std.specs.Prelude.{◌≡◌};
-ghost use Rattle.kinds.specs.Kinds.{behindRuns, behindState, behindIterations, behindMoves, behindBuild, behindSearch, behindDescent, behindAlone, behindRelay, behindLinks, behindCase};
+ghost use Rattle.kinds.specs.Kinds.{behind_runs, behind_state, behind_iterations, behind_moves, behind_build, behind_search, behind_descent, behind_alone, behind_relay, behind_links, behind_case};
 
 use cases::Cursor;
 
@@ -9,7 +9,7 @@ const MOST: usize = 65536;
 
 /// Passes `count` runs, each after its length.
 pub fn pass_runs(text: &[u8], c: Cursor, count: usize) -> Cursor
-    ensures { result ≡ behindRuns text.now count c }
+    ensures { result ≡ behind_runs text.now count c }
 {
     let mut left = count;
     let mut cursor = c;
@@ -27,7 +27,7 @@ pub fn pass_runs(text: &[u8], c: Cursor, count: usize) -> Cursor
 // Passes a build: d, n, `init_k`, L, `neighbor_neighbor_size`, the threshold and the lanes; n exact
 // lists; the rows after steps 4 and 5, nodes and bits, and the graph.
 fn build(text: &[u8], c: Cursor) -> Cursor
-    ensures { result ≡ behindBuild text.now c }
+    ensures { result ≡ behind_build text.now c }
 {
     let d = cases::read_size(text, c, MOST);
     let n = cases::read_size(text, d.cursor, MOST);
@@ -41,7 +41,7 @@ fn build(text: &[u8], c: Cursor) -> Cursor
 // Passes a search: d, n, L, k, the roots, the lanes, the query and the graph; m, nodes and bits, and
 // the takings.
 fn search(text: &[u8], c: Cursor) -> Cursor
-    ensures { result ≡ behindSearch text.now c }
+    ensures { result ≡ behind_search text.now c }
 {
     let d = cases::read_size(text, c, MOST);
     let n = cases::read_size(text, d.cursor, MOST);
@@ -59,7 +59,7 @@ fn search(text: &[u8], c: Cursor) -> Cursor
 
 /// Passes a descent's state: lists, four contexts for each node, and the visited pairs.
 pub fn pass_state(text: &[u8], c: Cursor, n: usize, k: usize) -> Cursor
-    ensures { result ≡ behindState text.now n k c }
+    ensures { result ≡ behind_state text.now n k c }
 {
     let lists = cases::pass(text, c, 2 * cases::area(n, k));
     let contexts = pass_runs(text, lists, cases::area(4, n));
@@ -68,7 +68,7 @@ pub fn pass_state(text: &[u8], c: Cursor, n: usize, k: usize) -> Cursor
 
 // Passes what `count` iterations answer: the cost, the total of new and the state.
 fn iterations(text: &[u8], c: Cursor, count: usize, n: usize, k: usize) -> Cursor
-    ensures { result ≡ behindIterations text.now count n k c }
+    ensures { result ≡ behind_iterations text.now count n k c }
 {
     let mut left = count;
     let mut cursor = c;
@@ -85,7 +85,7 @@ fn iterations(text: &[u8], c: Cursor, count: usize, n: usize, k: usize) -> Curso
 
 // Passes a descent: d, n, k, s, the lanes, the draws; the states.
 fn descent(text: &[u8], c: Cursor) -> Cursor
-    ensures { result ≡ behindDescent text.now c }
+    ensures { result ≡ behind_descent text.now c }
 {
     let d = cases::read_size(text, c, MOST);
     let n = cases::read_size(text, d.cursor, MOST);
@@ -100,7 +100,7 @@ fn descent(text: &[u8], c: Cursor) -> Cursor
 
 // Passes one iteration from a given state.
 fn iteration(text: &[u8], c: Cursor) -> Cursor
-    ensures { result ≡ behindAlone text.now c }
+    ensures { result ≡ behind_alone text.now c }
 {
     let d = cases::read_size(text, c, MOST);
     let n = cases::read_size(text, d.cursor, MOST);
@@ -113,7 +113,7 @@ fn iteration(text: &[u8], c: Cursor) -> Cursor
 
 // Passes the list that each of `count` moves left: its length, nodes and bits.
 fn moves(text: &[u8], c: Cursor, count: usize) -> Cursor
-    ensures { result ≡ behindMoves text.now count c }
+    ensures { result ≡ behind_moves text.now count c }
 {
     let mut left = count;
     let mut cursor = c;
@@ -131,7 +131,7 @@ fn moves(text: &[u8], c: Cursor, count: usize) -> Cursor
 // Passes a relay: d, n, k, the lanes, the lists, the jobs and the moves; what each move left, the
 // lists at the end, and two reports for each job.
 fn relay(text: &[u8], c: Cursor) -> Cursor
-    ensures { result ≡ behindRelay text.now c }
+    ensures { result ≡ behind_relay text.now c }
 {
     let d = cases::read_size(text, c, MOST);
     let n = cases::read_size(text, d.cursor, MOST);
@@ -148,7 +148,7 @@ fn relay(text: &[u8], c: Cursor) -> Cursor
 
 // Passes step 5 alone: d, n, L, the threshold, the lanes, and the rows before and after.
 fn links(text: &[u8], c: Cursor) -> Cursor
-    ensures { result ≡ behindLinks text.now c }
+    ensures { result ≡ behind_links text.now c }
 {
     let d = cases::read_size(text, c, MOST);
     let n = cases::read_size(text, d.cursor, MOST);
@@ -162,7 +162,7 @@ fn links(text: &[u8], c: Cursor) -> Cursor
 
 /// Passes the input and the answer of a case of some kind; a kind that there is not is a fault.
 pub fn pass_case(text: &[u8], c: Cursor, kind: u32) -> Cursor
-    ensures { result ≡ behindCase text.now kind c }
+    ensures { result ≡ behind_case text.now kind c }
 {
     match kind {
         1 => build(text, c),

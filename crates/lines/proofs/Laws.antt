@@ -2,64 +2,64 @@
 use Rattle.std.proofs.Common.{◌≡◌, ℕ, suc, ◌+◌, ◌-◌, ◌<◌, ◌≤◌, true, false, List, length, get_or, drop, pos, refl, add-one, arith, drop_of_length-le, drop-cons, eq-eqb, ne_eqb}
 use lib.Ieee.{binary32, of_bits, of_int}
 use Rattle.lines.specs.declared.Word.{Word}
-use Rattle.lines.specs.Words.{stops, end_of, endFrom, speltWith, shapeWith, digitsWith, word_of, word_at, wordsFrom, empty_at}
+use Rattle.lines.specs.Words.{stops, end_of, end_from, spelt_with, shape_with, digits_with, word_of, word_at, words_from, empty_at}
 
 module _ (text : List ℕ) (at : ℕ) where
   module _ (what : ℕ) where
-    pub end-end : length text ≤ at → endFrom what text at ≡ at
+    pub end-end : length text ≤ at → end_from what text at ≡ at
     unfolding end_of
     end-end h = rw (drop_of_length-le text h)
 
-    pub end-stop : at < length text → stops (get_or text at 0) what ≡ true → endFrom what text at ≡ at
+    pub end_stop : at < length text → stops (get_or text at 0) what ≡ true → end_from what text at ≡ at
     unfolding end_of
-    end-stop h stop = rw (drop-cons text at 0 h, stop)
+    end_stop h stop = rw (drop-cons text at 0 h, stop)
 
-    pub end-turn : at < length text → stops (get_or text at 0) what ≡ false → endFrom what text (at + 1) ≡ endFrom what text at
+    pub end_turn : at < length text → stops (get_or text at 0) what ≡ false → end_from what text (at + 1) ≡ end_from what text at
     unfolding end_of
-    end-turn h on = rw (drop-cons text at 0 h, on, add-one)
+    end_turn h on = rw (drop-cons text at 0 h, on, add-one)
 
   pub word_end : (w : Word) → length text ≤ at → word_of w (drop at text) ≡ w
   unfolding word_of
   word_end w h = rw (drop_of_length-le text h)
 
-  pub word-stop : (w : Word) → at < length text → stops (get_or text at 0) 2 ≡ true → word_of w (drop at text) ≡ w
+  pub word_stop : (w : Word) → at < length text → stops (get_or text at 0) 2 ≡ true → word_of w (drop at text) ≡ w
   unfolding word_of
-  word-stop w h stop = rw (drop-cons text at 0 h, stop)
+  word_stop w h stop = rw (drop-cons text at 0 h, stop)
 
-  pub word-turn :
+  pub word_turn :
       (start spelt shape digits spelt' shape' digits' : ℕ) → at < length text → stops (get_or text at 0) 2 ≡ false
-      → spelt' ≡ speltWith spelt (get_or text at 0) → shape' ≡ shapeWith shape digits (get_or text at 0) → digits' ≡ digitsWith digits (get_or text at 0)
+      → spelt' ≡ spelt_with spelt (get_or text at 0) → shape' ≡ shape_with shape digits (get_or text at 0) → digits' ≡ digits_with digits (get_or text at 0)
       → word_of (record { start = start; end = at + 1; spelt = spelt'; shape = shape'; digits = digits' }) (drop (at + 1) text)
       ≡ word_of (record { start = start; end = at; spelt = spelt; shape = shape; digits = digits }) (drop at text)
   unfolding word_of
-  word-turn start spelt shape digits spelt' shape' digits' h on a b c = rw (drop-cons text at 0 h, on, a, b, c, add-one)
+  word_turn start spelt shape digits spelt' shape' digits' h on a b c = rw (drop-cons text at 0 h, on, a, b, c, add-one)
 
-pub word-start : (text : List ℕ) (from start : ℕ) → start ≡ endFrom 3 text from → word_of (empty_at start) (drop start text) ≡ word_at text from
+pub word_start : (text : List ℕ) (from start : ℕ) → start ≡ end_from 3 text from → word_of (empty_at start) (drop start text) ≡ word_at text from
 unfolding word_at
-word-start text from start e = rw e
+word_start text from start e = rw e
 
 -- `count` words are counted, of `most` at most.
 module _ (text : List ℕ) (most count at : ℕ) (w : Word) (e : w ≡ word_at text at) (h : count < most) where
-  pub count_none : w.start ≡ w.end → count + wordsFrom (most - count) text at ≡ count
-  unfolding wordsFrom
+  pub count_none : w.start ≡ w.end → count + words_from (most - count) text at ≡ count
+  unfolding words_from
   count_none none =
       let less : most - count ≡ suc (most - (count + 1)) = omega arith in
       rw (less, ← e, eq-eqb w.start w.end none) (omega arith)
 
   pub count_turn :
-      (w.start ≡ w.end → ⊥) → (count + 1) + wordsFrom (most - (count + 1)) text w.end ≡ count + wordsFrom (most - count) text at
-  unfolding wordsFrom
+      (w.start ≡ w.end → ⊥) → (count + 1) + words_from (most - (count + 1)) text w.end ≡ count + words_from (most - count) text at
+  unfolding words_from
   count_turn some =
       let less : most - count ≡ suc (most - (count + 1)) = omega arith in
       rw (less, ← e, ne_eqb w.start w.end some) (omega arith)
 
-pub count-start : (text : List ℕ) (most at : ℕ) → 0 + wordsFrom (most - 0) text at ≡ wordsFrom most text at
-count-start text most at =
+pub count_start : (text : List ℕ) (most at : ℕ) → 0 + words_from (most - 0) text at ≡ words_from most text at
+count_start text most at =
     let all : most - 0 ≡ most = omega arith in
     rw all (omega arith)
 
-pub count-all : (text : List ℕ) (most count at : ℕ) → most ≤ count → count + wordsFrom (most - count) text at ≡ count
-unfolding wordsFrom
+pub count-all : (text : List ℕ) (most count at : ℕ) → most ≤ count → count + words_from (most - count) text at ≡ count
+unfolding words_from
 count-all text most count at h =
     let none : most - count ≡ 0 = omega arith in
     rw none (omega arith)
@@ -69,14 +69,14 @@ pub one-is : of_bits binary32 0x3F800000 ≡ of_int binary32 (pos 1)
 unfolding of_bits of_int
 one-is = refl
 
-pub ten-is : of_bits binary32 0x41200000 ≡ of_int binary32 (pos 10)
+pub ten_is : of_bits binary32 0x41200000 ≡ of_int binary32 (pos 10)
 unfolding of_bits of_int
-ten-is = refl
+ten_is = refl
 
-pub hundred-is : of_bits binary32 0x42C80000 ≡ of_int binary32 (pos 100)
+pub hundred_is : of_bits binary32 0x42C80000 ≡ of_int binary32 (pos 100)
 unfolding of_bits of_int
-hundred-is = refl
+hundred_is = refl
 
-pub thousand-is : of_bits binary32 0x447A0000 ≡ of_int binary32 (pos 1000)
+pub thousand_is : of_bits binary32 0x447A0000 ≡ of_int binary32 (pos 1000)
 unfolding of_bits of_int
-thousand-is = refl
+thousand_is = refl

@@ -8,7 +8,7 @@ use lib.Ieee.Scale.{round_same}
 use Rattle.rules.proofs.Tests as tests
 use Rattle.lines.proofs.Choice.{either, both}
 use Rattle.lines.specs.declared.Word.{Word}
-use Rattle.lines.specs.Words.{stops, endFrom, isDigit, mostDigits, digitsWith, empty_at, withByte, word_of, word_at, is_nan, scale_of, value_of}
+use Rattle.lines.specs.Words.{stops, end_from, is_digit, most_digits, digits_with, empty_at, with_byte, word_of, word_at, is_nan, scale_of, value_of}
 
 -- the quotient of two whole numbers
 div-at : (f : Format) (x y : Float) (a b : ℕ) → 0 < b → HasValue x false a 1 → HasValue y false b 1 → div f x y ≡ round f false a b
@@ -24,28 +24,28 @@ div-at f (fin false m e) (fin false zero d) a b B v w =
 div-at f (fin false m e) (fin false (suc n) d) a b B v w =
     let x = m * up e in
     let y = suc n * up d in
-    let x-is : x ≡ a * down e = sym (mul-one x) ∙ v.1 in
-    let y-is : y ≡ b * down d = sym (mul-one y) ∙ w.1 in
+    let x_is : x ≡ a * down e = sym (mul-one x) ∙ v.1 in
+    let y_is : y ≡ b * down d = sym (mul-one y) ∙ w.1 in
     let some : eqb (suc n) 0 ≡ false = ne_eqb (suc n) 0 (λ z. omega (arith, z)) in
     ap (λ (t : Bool). cond t (cond (eqb m 0) nan (inf false)) (round f false (x * down d) (y * down e))) some
     ∙ round_same f false (x * down d) (y * down e) a b (mul-pos (mul-pos (zero-lt-suc n) (up_pos d)) (down_pos e)) B
-    (ap (λ (z : ℕ). z * down d * b) x-is ∙ mul_assoc (a * down e) (down d) b ∙ mul_assoc a (down e) (down d * b)
-    ∙ ap (λ (z : ℕ). a * z) (mul_comm (down e) (down d * b) ∙ ap (λ (z : ℕ). z * down e) (mul_comm (down d) b ∙ sym y-is)))
+    (ap (λ (z : ℕ). z * down d * b) x_is ∙ mul_assoc (a * down e) (down d) b ∙ mul_assoc a (down e) (down d * b)
+    ∙ ap (λ (z : ℕ). a * z) (mul_comm (down e) (down d * b) ∙ ap (λ (z : ℕ). z * down e) (mul_comm (down d) b ∙ sym y_is)))
 
-scale-is : (shape : ℕ) → (0 < scale_of shape) × (scale_of shape ≤ 2 ^ 24)
+scale_is : (shape : ℕ) → (0 < scale_of shape) × (scale_of shape ≤ 2 ^ 24)
 unfolding scale_of
-scale-is shape =
+scale_is shape =
     both (λ (k : ℕ). (0 < k) × (k ≤ 2 ^ 24)) (ltb shape 5) 1 _ (omega arith, omega arith)
     (both (λ (k : ℕ). (0 < k) × (k ≤ 2 ^ 24)) (eqb shape 5) 10 _ (omega arith, omega arith)
     (both (λ (k : ℕ). (0 < k) × (k ≤ 2 ^ 24)) (eqb shape 7) 100 1000 (omega arith, omega arith) (omega arith, omega arith)))
 
-digits-small : (digits b : ℕ) → digits ≤ 16000009 → digitsWith digits b ≤ 16000009
-unfolding digitsWith isDigit
-digits-small digits b h =
-    either (λ (k : ℕ). k ≤ 16000009) (leb digits mostDigits && (leb 48 b && leb b 57)) (digits * 10 + (b - 48)) digits
+digits_small : (digits b : ℕ) → digits ≤ 16000009 → digits_with digits b ≤ 16000009
+unfolding digits_with is_digit
+digits_small digits b h =
+    either (λ (k : ℕ). k ≤ 16000009) (leb digits most_digits && (leb 48 b && leb b 57)) (digits * 10 + (b - 48)) digits
     (λ t.
-    let u = tests.both (leb digits mostDigits) (leb 48 b && leb b 57) t in
-    let few = leb-true digits mostDigits u.0 in
+    let u = tests.both (leb digits most_digits) (leb 48 b && leb b 57) t in
+    let few = leb-true digits most_digits u.0 in
     let low = leb-true b 57 (tests.both (leb 48 b) (leb b 57) u.1).1 in
     omega (arith, few, low))
     (λ _. h)
@@ -54,19 +54,19 @@ word_small : (bs : List ℕ) (w : Word) → w.digits ≤ 16000009 → (word_of w
 unfolding word_of
 word_small [] w h = h
 word_small (b ∷ bs) w h =
-    both (λ (v : Word). v.digits ≤ 16000009) (stops b 2) w (word_of (withByte w b) bs) h (word_small bs (withByte w b) (digits-small w.digits b h))
+    both (λ (v : Word). v.digits ≤ 16000009) (stops b 2) w (word_of (with_byte w b) bs) h (word_small bs (with_byte w b) (digits_small w.digits b h))
 
-pub value-nearest :
+pub value_nearest :
     (text : List ℕ) (from : ℕ)
     → let w = word_at text from in
     let near = round binary32 false w.digits (scale_of w.shape) in
     value_of text w ≡ cond (is_nan w) nan (cond (eqb (get_or text w.start 0) 45) (neg near) near)
 unfolding word_at value_of of_int
-value-nearest text from =
-    let start = endFrom 3 text from in
+value_nearest text from =
+    let start = end_from 3 text from in
     let w = word_of (empty_at start) (drop start text) in
     let small = word_small (drop start text) (empty_at start) (omega arith) in
-    let scale = scale-is w.shape in
+    let scale = scale_is w.shape in
     ap (λ (x : Float). cond (is_nan w) nan (cond (eqb (get_or text w.start 0) 45) (neg x) x))
     (div-at binary32 (round binary32 false w.digits 1) (round binary32 false (scale_of w.shape) 1) w.digits (scale_of w.shape) scale.0
     (round_whole binary32 false w.digits (omega (arith, small))) (round_whole binary32 false (scale_of w.shape) scale.1))

@@ -2,7 +2,7 @@
 use Rattle.std.proofs.Common.{◌≡◌, ℕ, suc, ◌+◌, ◌≤◌, List, [], ◌∷◌, length, drop, refl, arith, length-drop}
 use Rattle.lines.proofs.Choice.{both}
 use Rattle.lines.specs.declared.Word.{Word}
-use Rattle.lines.specs.Words.{stops, end_of, endFrom, empty_at, withByte, word_of, word_at}
+use Rattle.lines.specs.Words.{stops, end_of, end_from, empty_at, with_byte, word_of, word_at}
 
 module _ (what : ℕ) where
   end-between : (bs : List ℕ) (at : ℕ) → (at ≤ end_of what bs at) × (end_of what bs at ≤ at + length bs)
@@ -13,7 +13,7 @@ module _ (what : ℕ) where
       both (λ (e : ℕ). (at ≤ e) × (e ≤ at + length (b ∷ bs))) (stops b what) at (end_of what bs (suc at)) (omega arith, omega arith)
       (omega (arith, h.0), omega (arith, h.1))
 
-  pub end-within : (text : List ℕ) (at : ℕ) → at ≤ length text → (at ≤ endFrom what text at) × (endFrom what text at ≤ length text)
+  pub end-within : (text : List ℕ) (at : ℕ) → at ≤ length text → (at ≤ end_from what text at) × (end_from what text at ≤ length text)
   end-within text at h =
       let e = end-between (drop at text) at in
       let l = length-drop at text in
@@ -23,17 +23,17 @@ word-between : (bs : List ℕ) (w : Word) → ((word_of w bs).start ≡ w.start)
 unfolding word_of
 word-between [] w = (refl, omega arith, omega arith)
 word-between (b ∷ bs) w =
-    let h = word-between bs (withByte w b) in
-    both (λ (v : Word). (v.start ≡ w.start) × (w.end ≤ v.end) × (v.end ≤ w.end + length (b ∷ bs))) (stops b 2) w (word_of (withByte w b) bs)
+    let h = word-between bs (with_byte w b) in
+    both (λ (v : Word). (v.start ≡ w.start) × (w.end ≤ v.end) × (v.end ≤ w.end + length (b ∷ bs))) (stops b 2) w (word_of (with_byte w b) bs)
     (refl, omega arith, omega arith) (h.0, omega (arith, h.1), omega (arith, h.2))
 
-pub word-within :
+pub word_within :
     (text : List ℕ) (from : ℕ) → from ≤ length text
     → (from ≤ (word_at text from).start) × ((word_at text from).start ≤ (word_at text from).end) × ((word_at text from).end ≤ length text)
 unfolding word_at
-word-within text from h =
+word_within text from h =
     let e = end-within 3 text from h in
-    let start = endFrom 3 text from in
+    let start = end_from 3 text from in
     let w = word-between (drop start text) (empty_at start) in
     let l = length-drop start text in
     (omega (arith, e.0, w.0), omega (arith, w.0, w.1), omega (arith, w.2, l, e.1))

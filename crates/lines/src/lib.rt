@@ -2,7 +2,7 @@
 ghost use Rattle.std.specs.Prelude.{◌≡◌, pos};
 ghost use Rattle.std.specs.Float.{binary32};
 ghost use Rattle.std.specs.Float.Ieee.{of_int};
-ghost use Rattle.lines.specs.Words.{isBlank, stops, endFrom, speltWith, isDigit, digitsWith, shapeWithDigit, shapeWith, word_at, wordsFrom, is_number, scale_of, value_of};
+ghost use Rattle.lines.specs.Words.{is_blank, stops, end_from, spelt_with, is_digit, digits_with, shape_with_digit, shape_with, word_at, words_from, is_number, scale_of, value_of};
 
 /// What ends a line.
 pub const LINE: u32 = 0;
@@ -45,7 +45,7 @@ pub struct Word {
 }
 
 fn is_blank(b: u8) -> bool
-    ensures { result ≡ isBlank b }
+    ensures { result ≡ is_blank b }
 {
     if b == b' ' {
         return true;
@@ -79,7 +79,7 @@ fn stops(b: u8, what: u32) -> bool
 
 /// The first place from `from` on where such an end is, or the text's.
 pub fn find(text: &[u8], from: usize, what: u32) -> usize
-    ensures { result ≡ endFrom what text.now from }
+    ensures { result ≡ end_from what text.now from }
 {
     let mut at = from;
     while at < text.len() {
@@ -92,7 +92,7 @@ pub fn find(text: &[u8], from: usize, what: u32) -> usize
 }
 
 fn spelt_with(spelt: u64, b: u8) -> u64
-    ensures { result ≡ speltWith spelt b }
+    ensures { result ≡ spelt_with spelt b }
 {
     if spelt > 0xFF_FFFF_FFFF_FFFF {
         return 0xFFFF_FFFF_FFFF_FFFF;
@@ -101,7 +101,7 @@ fn spelt_with(spelt: u64, b: u8) -> u64
 }
 
 fn is_digit(b: u8) -> bool
-    ensures { result ≡ isDigit b }
+    ensures { result ≡ is_digit b }
 {
     if b < b'0' {
         return false;
@@ -111,7 +111,7 @@ fn is_digit(b: u8) -> bool
 
 // All digits together stay below 2^24, so that binary32 holds them exactly.
 fn digits_with(digits: u32, b: u8) -> u32
-    ensures { result ≡ digitsWith digits b }
+    ensures { result ≡ digits_with digits b }
 {
     if digits > 1600000 {
         return digits;
@@ -127,7 +127,7 @@ fn digits_with(digits: u32, b: u8) -> u32
 
 // A digit more: three stand behind the point at most.
 fn shape_with_digit(shape: u32) -> u32
-    ensures { result ≡ shapeWithDigit shape }
+    ensures { result ≡ shape_with_digit shape }
 {
     if shape >= THREE_PLACES {
         return BAD;
@@ -142,7 +142,7 @@ fn shape_with_digit(shape: u32) -> u32
 }
 
 fn shape_with(shape: u32, digits: u32, b: u8) -> u32
-    ensures { result ≡ shapeWith shape digits b }
+    ensures { result ≡ shape_with shape digits b }
 {
     if is_digit(b) {
         if digits > 1600000 {
@@ -197,7 +197,7 @@ pub fn next_word(text: &[u8], from: usize) -> Word
 
 /// How many words a line has from a place on, and 1,024 where there are more.
 pub fn count_words(text: &[u8], from: usize) -> usize
-    ensures { result ≡ wordsFrom 1024 text.now from }
+    ensures { result ≡ words_from 1024 text.now from }
 {
     let mut count: usize = 0;
     let mut at = from;

@@ -10,25 +10,25 @@ use lib.Seq.{length-take-le, drop-drop}
 use lib.Ieee.{Float}
 use borrow.Rule.Slice.PartMut.{mid_of, put_mid}
 use Rattle.rules.specs.declared.Neighbor.{Neighbor}
-use Rattle.rules.specs.Loops.{turns, has, part, putPart}
-use Rattle.rules.specs.Lists.{neighbor, node_of, nodesOf, entries}
-use Rattle.rules.specs.Rows.{is_empty, emptySlot, live}
-use Rattle.rules.specs.Build.{Between, slotRead, offered, linkBack, link, linkedSlots}
+use Rattle.rules.specs.Loops.{turns, has, part, put_part}
+use Rattle.rules.specs.Lists.{neighbor, node_of, nodes_of, entries}
+use Rattle.rules.specs.Rows.{is_empty, empty_slot, live}
+use Rattle.rules.specs.Build.{Between, slot_read, offered, link_back, link, linked_slots}
 use Rattle.rules.specs.Calls.{BuildSizes}
-use Rattle.rules.proofs.Loops.{turns-turn, row_in}
-use Rattle.lists.proofs.Slices.{length-entries, entries-take, take-entries, nodesOf-entries}
+use Rattle.rules.proofs.Loops.{turns_turn, row_in}
+use Rattle.lists.proofs.Slices.{length-entries, entries-take, take-entries, nodes_of-entries}
 use Rattle.lists.proofs.Plain.{all-at}
 use Rattle.rows.specs.Live.{LiveIn}
 use Rattle.rows.proofs.Laws.{entries-append, entries_from, part-entries}
 use Rattle.offers.specs.Sound.{Sound}
 use Rattle.offers.proofs.Laws.{sound-offered, sound-part, sound-put}
-use Rattle.links.specs.Links.{Room, Linked, linksOf, linksAll}
+use Rattle.links.specs.Links.{Room, Linked, links_of, links_all}
 
 -- ---- a row is lent, k places from q * w on, and comes back: the entries are those with part q replaced
 
 pub put_entries : (w q m : ℕ) (ns ys : List ℕ) (ds zs : List Float) → q * w + w ≤ m → m ≤ length ns → m ≤ length ds → length ys ≡ w → length zs ≡ w
-    → entries m (put_mid (q * w) w ns ys) (put_mid (q * w) w ds zs) ≡ putPart w q (entries w ys zs) (entries m ns ds)
-unfolding putPart
+    → entries m (put_mid (q * w) w ns ys) (put_mid (q * w) w ds zs) ≡ put_part w q (entries w ys zs) (entries m ns ds)
+unfolding put_part
 put_entries w q m ns ys ds zs h k g y z =
     let a = q * w in
     let r = m - (a + w) in
@@ -52,24 +52,24 @@ module _ (n w : ℕ) (ns : List ℕ) (ds : List Float) (q : ℕ) (h : n * w ≤ 
   unfolding part
   row_is = part-entries w q (n * w) ns ds (row_in n w q l) h g
 
-  row-long : length (mid_of (q * w) w ns) ≡ w
-  row-long = let r = row_in n w q l in length-take-le w (drop (q * w) ns) (rw (length-drop (q * w) ns) (omega arith))
+  row_long : length (mid_of (q * w) w ns) ≡ w
+  row_long = let r = row_in n w q l in length-take-le w (drop (q * w) ns) (rw (length-drop (q * w) ns) (omega arith))
 
   row-dists : length (mid_of (q * w) w ds) ≡ w
   row-dists = let r = row_in n w q l in length-take-le w (drop (q * w) ds) (rw (length-drop (q * w) ds) (omega arith))
 
-  live-nodes : {r : ℕ} → LiveIn w (mid_of (q * w) w ds) r → nodesOf (live (part w q (entries (n * w) ns ds))) ≡ take r (mid_of (q * w) w ns)
+  live-nodes : {r : ℕ} → LiveIn w (mid_of (q * w) w ds) r → nodes_of (live (part w q (entries (n * w) ns ds))) ≡ take r (mid_of (q * w) w ns)
   live-nodes {r} made =
       let in_row = made.within in
-      let i = row-long in
+      let i = row_long in
       let j = row-dists in
-      ap (λ (l : List Neighbor). nodesOf (live l)) row_is
-      ∙ ap nodesOf (made.list (mid_of (q * w) w ns) (omega arith))
-      ∙ nodesOf-entries r (mid_of (q * w) w ns) (mid_of (q * w) w ds) (omega arith)
+      ap (λ (l : List Neighbor). nodes_of (live l)) row_is
+      ∙ ap nodes_of (made.list (mid_of (q * w) w ns) (omega arith))
+      ∙ nodes_of-entries r (mid_of (q * w) w ns) (mid_of (q * w) w ds) (omega arith)
 
   -- the row is lent, k places
   pub known : (v k : ℕ) → k ≡ w → {r : ℕ} → LiveIn w (mid_of (q * w) k ds) r
-      → has v (take r (mid_of (q * w) k ns)) ≡ has v (nodesOf (live (part w q (entries (n * w) ns ds))))
+      → has v (take r (mid_of (q * w) k ns)) ≡ has v (nodes_of (live (part w q (entries (n * w) ns ds))))
   known v k u {r} made =
       ap (λ (x : ℕ). has v (take r (mid_of (q * w) x ns))) u
       ∙ sym (ap (has v) (live-nodes {r = r} (subst (λ (x : ℕ). LiveIn w (mid_of (q * w) x ds) r) u made)))
@@ -81,32 +81,32 @@ module _ (n w : ℕ) (ns : List ℕ) (ds : List Float) (d : Between) (t : Float)
   lent-sound k u = rw (u, ← row_is n w ns ds (node_of e) h g q) (sound-part n w (node_of e) (entries (n * w) ns ds) S)
 
   -- "If v is in w's live part, go on."
-  pub linked-known : has v (nodesOf (live (part w (node_of e) (entries (n * w) ns ds)))) ≡ true → Linked n w (linkBack d t w v e (entries (n * w) ns ds)) ns ds
-  unfolding linkBack
-  linked-known b = record { list = rw b; sound = S }
+  pub linked_known : has v (nodes_of (live (part w (node_of e) (entries (n * w) ns ds)))) ≡ true → Linked n w (link_back d t w v e (entries (n * w) ns ds)) ns ds
+  unfolding link_back
+  linked_known b = record { list = rw b; sound = S }
 
   -- "Otherwise offer (v, that slot's distance) to row w."
-  pub linked-offered : has v (nodesOf (live (part w (node_of e) (entries (n * w) ns ds)))) ≡ false → v < n → (k : ℕ) → k ≡ w → (ys : List ℕ) (zs : List Float)
+  pub linked_offered : has v (nodes_of (live (part w (node_of e) (entries (n * w) ns ds)))) ≡ false → v < n → (k : ℕ) → k ≡ w → (ys : List ℕ) (zs : List Float)
       → length ys ≡ length (mid_of (node_of e * w) k ns) → length zs ≡ length (mid_of (node_of e * w) k ds)
       → entries w ys zs ≡ offered d t w (neighbor v e.distance) (entries w (mid_of (node_of e * w) k ns) (mid_of (node_of e * w) k ds))
-      → Linked n w (linkBack d t w v e (entries (n * w) ns ds)) (put_mid (node_of e * w) k ns ys) (put_mid (node_of e * w) k ds zs)
-  unfolding linkBack
-  linked-offered b l k u ys zs y z o =
+      → Linked n w (link_back d t w v e (entries (n * w) ns ds)) (put_mid (node_of e * w) k ns ys) (put_mid (node_of e * w) k ds zs)
+  unfolding link_back
+  linked_offered b l k u ys zs y z o =
       let at = node_of e in
       let slots = entries (n * w) ns ds in
       let row = part w at slots in
       let offer = neighbor v e.distance in
       let is = row_is n w ns ds at h g q in
-      let a = row-long n w ns ds at h g q in
+      let a = row_long n w ns ds at h g q in
       let c = row-dists n w ns ds at h g q in
       let y' : length ys ≡ w = y ∙ ap (λ (x : ℕ). length (mid_of (at * w) x ns)) u ∙ a in
       let z' : length zs ≡ w = z ∙ ap (λ (x : ℕ). length (mid_of (at * w) x ds)) u ∙ c in
       let o' : entries w ys zs ≡ offered d t w offer row =
       o ∙ ap (λ (x : ℕ). offered d t w offer (entries w (mid_of (at * w) x ns) (mid_of (at * w) x ds))) u ∙ ap (offered d t w offer) (sym is) in
-      let back : entries (n * w) (put_mid (at * w) k ns ys) (put_mid (at * w) k ds zs) ≡ putPart w at (offered d t w offer row) slots =
+      let back : entries (n * w) (put_mid (at * w) k ns ys) (put_mid (at * w) k ds zs) ≡ put_part w at (offered d t w offer row) slots =
       ap (λ (x : ℕ). entries (n * w) (put_mid (at * w) x ns ys) (put_mid (at * w) x ds zs)) u
       ∙ put_entries w at (n * w) ns ys ds zs (row_in n w at q) h g y' z'
-      ∙ ap (λ (l : List Neighbor). putPart w at l slots) o' in
+      ∙ ap (λ (l : List Neighbor). put_part w at l slots) o' in
       let long : length row ≡ w = ap length is ∙ length-entries w (mid_of (at * w) w ns) (mid_of (at * w) w ds) (rw a (omega arith)) (rw c (omega arith)) in
       record {
         list = rw b back;
@@ -120,25 +120,25 @@ least-one w zero h = zero-le
 least-one w (suc v) h = let i = least-one w v h in let m = suc-mul v w in omega arith
 
 -- the slot that is read is one of the n times w
-pub slot-within : {n w v i : ℕ} → v < n → i < w → slotRead w v i < n * w
-slot-within {n} {w} {v} {i} l k =
+pub slot_within : {n w v i : ℕ} → v < n → i < w → slot_read w v i < n * w
+slot_within {n} {w} {v} {i} l k =
     let r = row_in n w v l in
     let m = least-one w v (omega arith) in
     omega arith
 
 -- the entry e that stands in it
-module _ (n w v i : ℕ) (ns : List ℕ) (ds : List Float) {e : Neighbor} (S : Sound n (entries (n * w) ns ds)) (r : e ≡ get_or (entries (n * w) ns ds) (slotRead w v i) (emptySlot 0)) where
-  pub slot-below : n * w ≤ length ns → n * w ≤ length ds → slotRead w v i < n * w → is_empty e ≡ false → node_of e < n
-  slot-below h g l =
+module _ (n w v i : ℕ) (ns : List ℕ) (ds : List Float) {e : Neighbor} (S : Sound n (entries (n * w) ns ds)) (r : e ≡ get_or (entries (n * w) ns ds) (slot_read w v i) (empty_slot 0)) where
+  pub slot_below : n * w ≤ length ns → n * w ≤ length ds → slot_read w v i < n * w → is_empty e ≡ false → node_of e < n
+  slot_below h g l =
       let long = length-entries (n * w) ns ds h g in
-      rw r (all-at (λ (x : Neighbor). is_empty x ≡ false → node_of x < n) (entries (n * w) ns ds) (slotRead w v i) (emptySlot 0) S (omega arith))
+      rw r (all-at (λ (x : Neighbor). is_empty x ≡ false → node_of x < n) (entries (n * w) ns ds) (slot_read w v i) (empty_slot 0) S (omega arith))
 
-  pub link-empty : (d : Between) (t : Float) → is_empty e ≡ true → Linked n w (link d t w v i (entries (n * w) ns ds)) ns ds
+  pub link_empty : (d : Between) (t : Float) → is_empty e ≡ true → Linked n w (link d t w v i (entries (n * w) ns ds)) ns ds
   unfolding link
-  link-empty d t b = record { list = rw (← r, b); sound = S }
+  link_empty d t b = record { list = rw (← r, b); sound = S }
 
   pub link_on : (d : Between) (t : Float) → is_empty e ≡ false → {ns' : List ℕ} {ds' : List Float}
-      → Linked n w (linkBack d t w v e (entries (n * w) ns ds)) ns' ds' → Linked n w (link d t w v i (entries (n * w) ns ds)) ns' ds'
+      → Linked n w (link_back d t w v e (entries (n * w) ns ds)) ns' ds' → Linked n w (link d t w v i (entries (n * w) ns ds)) ns' ds'
   unfolding link
   link_on d t b made = record { list = made.list ∙ rw (← r, b); sound = made.sound }
 
@@ -149,56 +149,56 @@ pub record Turning (n w bound : ℕ) (f : ℕ → List Neighbor → List Neighbo
   pub linked : Linked n w (turns f i (entries (n * w) ns₀ ds₀)) ns ds
   pub nodes : length ns ≡ length ns₀
   pub dists : length ds ≡ length ds₀
-  pub pool-nodes : length ps ≡ length ps₀
-  pub pool-dists : length qs ≡ length qs₀
+  pub pool_nodes : length ps ≡ length ps₀
+  pub pool_dists : length qs ≡ length qs₀
 
-pub turning-none : {n w bound : ℕ} {f : ℕ → List Neighbor → List Neighbor} {ns : List ℕ} {ds : List Float} {ps : List ℕ} {qs : List Float} → Sound n (entries (n * w) ns ds)
+pub turning_none : {n w bound : ℕ} {f : ℕ → List Neighbor → List Neighbor} {ns : List ℕ} {ds : List Float} {ps : List ℕ} {qs : List Float} → Sound n (entries (n * w) ns ds)
     → Turning n w bound f ns ds ps qs ns ds ps qs 0
 unfolding turns
-turning-none S = record { within = zero-le; linked = record { list = refl; sound = S }; nodes = refl; dists = refl; pool-nodes = refl; pool-dists = refl }
+turning_none S = record { within = zero-le; linked = record { list = refl; sound = S }; nodes = refl; dists = refl; pool_nodes = refl; pool_dists = refl }
 
 module _ {n w bound : ℕ} {f : ℕ → List Neighbor → List Neighbor} {ns₀ : List ℕ} {ds₀ : List Float} {ps₀ : List ℕ} {qs₀ : List Float} {ns : List ℕ} {ds : List Float} {ps : List ℕ} {qs : List Float} {i : ℕ} (inv : Turning n w bound f ns₀ ds₀ ps₀ qs₀ ns ds ps qs i) where
-  pub turning-room : Room n w ns₀ ds₀ ps₀ qs₀ → Room n w ns ds ps qs
-  turning-room room =
+  pub turning_room : Room n w ns₀ ds₀ ps₀ qs₀ → Room n w ns ds ps qs
+  turning_room room =
       record {
         nodes = rw inv.nodes room.nodes;
         dists = rw inv.dists room.dists;
-        pool-nodes = rw inv.pool-nodes room.pool-nodes;
-        pool-dists = rw inv.pool-dists room.pool-dists;
+        pool_nodes = rw inv.pool_nodes room.pool_nodes;
+        pool_dists = rw inv.pool_dists room.pool_dists;
         most = room.most;
         wide = room.wide;
         some = room.some;
       }
 
-  pub turning-turn : i < bound → {ns' : List ℕ} {ds' : List Float} {ps' : List ℕ} {qs' : List Float} → Linked n w (f i (entries (n * w) ns ds)) ns' ds'
+  pub turning_turn : i < bound → {ns' : List ℕ} {ds' : List Float} {ps' : List ℕ} {qs' : List Float} → Linked n w (f i (entries (n * w) ns ds)) ns' ds'
       → length ns' ≡ length ns → length ds' ≡ length ds → length ps' ≡ length ps → length qs' ≡ length qs
       → Turning n w bound f ns₀ ds₀ ps₀ qs₀ ns' ds' ps' qs' (i + 1)
-  turning-turn l made a b c e =
+  turning_turn l made a b c e =
       record {
         within = omega arith;
-        linked = record { list = made.list ∙ ap (f i) inv.linked.list ∙ turns-turn f i (entries (n * w) ns₀ ds₀); sound = made.sound };
+        linked = record { list = made.list ∙ ap (f i) inv.linked.list ∙ turns_turn f i (entries (n * w) ns₀ ds₀); sound = made.sound };
         nodes = a ∙ inv.nodes;
         dists = b ∙ inv.dists;
-        pool-nodes = c ∙ inv.pool-nodes;
-        pool-dists = e ∙ inv.pool-dists;
+        pool_nodes = c ∙ inv.pool_nodes;
+        pool_dists = e ∙ inv.pool_dists;
       }
 
-  turning-all : bound ≤ i → Linked n w (turns f bound (entries (n * w) ns₀ ds₀)) ns ds
-  turning-all l =
+  turning_all : bound ≤ i → Linked n w (turns f bound (entries (n * w) ns₀ ds₀)) ns ds
+  turning_all l =
       let u = inv.within in
       let same : i ≡ bound = omega arith in
       record { list = inv.linked.list ∙ ap (λ (x : ℕ). turns f x (entries (n * w) ns₀ ds₀)) same; sound = inv.linked.sound }
 
 module _ (d : Between) (t : Float) {n w : ℕ} {ns₀ : List ℕ} {ds₀ : List Float} {ps₀ : List ℕ} {qs₀ : List Float} {ns : List ℕ} {ds : List Float} {ps : List ℕ} {qs : List Float} {i : ℕ} where
-  pub links-of : (v : ℕ) → Turning n w w (link d t w v) ns₀ ds₀ ps₀ qs₀ ns ds ps qs i → w ≤ i → Linked n w (linksOf d t w v (entries (n * w) ns₀ ds₀)) ns ds
-  unfolding linksOf
-  links-of v inv l = turning-all inv l
+  pub links_of_lem : (v : ℕ) → Turning n w w (link d t w v) ns₀ ds₀ ps₀ qs₀ ns ds ps qs i → w ≤ i → Linked n w (links_of d t w v (entries (n * w) ns₀ ds₀)) ns ds
+  unfolding links_of
+  links_of_lem v inv l = turning_all inv l
 
-  pub links-all : Turning n w n (linksOf d t w) ns₀ ds₀ ps₀ qs₀ ns ds ps qs i → n ≤ i → Linked n w (linksAll d n t w (entries (n * w) ns₀ ds₀)) ns ds
-  unfolding linksAll
-  links-all inv l = turning-all inv l
+  pub links_all_lem : Turning n w n (links_of d t w) ns₀ ds₀ ps₀ qs₀ ns ds ps qs i → n ≤ i → Linked n w (links_all d n t w (entries (n * w) ns₀ ds₀)) ns ds
+  unfolding links_all
+  links_all_lem inv l = turning_all inv l
 
 -- what the links give is what the rulebook says of step 5
-pub linked-slots : (d : Between) (n : ℕ) (p : BuildSizes) (slots : List Neighbor) → linksAll d n p.threshold p.index-size slots ≡ linkedSlots d n p slots
-unfolding linksAll linksOf linkedSlots
-linked-slots d n p slots = refl
+pub linked_slots_lem : (d : Between) (n : ℕ) (p : BuildSizes) (slots : List Neighbor) → links_all d n p.threshold p.index_size slots ≡ linked_slots d n p slots
+unfolding links_all links_of linked_slots
+linked_slots_lem d n p slots = refl

@@ -10,8 +10,8 @@ use Rattle.offers.specs.Sound.{Sound}
 pub record Room (n w : ℕ) (ns : List ℕ) (ds : List Float) (ps : List ℕ) (qs : List Float) : Type 0 where
   pub nodes : n * w ≤ length ns
   pub dists : n * w ≤ length ds
-  pub pool-nodes : w < length ps
-  pub pool-dists : w < length qs
+  pub pool_nodes : w < length ps
+  pub pool_dists : w < length qs
   pub most : n ≤ 4096
   pub wide : w ≤ 64
   pub some : 1 ≤ w
@@ -22,8 +22,8 @@ pub record Linked (n w : ℕ) (slots : List Neighbor) (ns : List ℕ) (ds : List
   pub sound : Sound n (entries (n * w) ns ds)
 
 -- the links of node v, and of every node rising
-unfoldable pub linksOf : Between → Float → ℕ → ℕ → List Neighbor → List Neighbor
-linksOf d threshold index-size v slots = turns (link d threshold index-size v) index-size slots
+unfoldable pub links_of : Between → Float → ℕ → ℕ → List Neighbor → List Neighbor
+links_of d threshold index_size v slots = turns (link d threshold index_size v) index_size slots
 
-unfoldable pub linksAll : Between → ℕ → Float → ℕ → List Neighbor → List Neighbor
-linksAll d n threshold index-size slots = turns (linksOf d threshold index-size) n slots
+unfoldable pub links_all : Between → ℕ → Float → ℕ → List Neighbor → List Neighbor
+links_all d n threshold index_size slots = turns (links_of d threshold index_size) n slots

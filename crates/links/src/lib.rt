@@ -1,12 +1,12 @@
 // Step 5 of build, the reverse links: the n times `index_size` slots are a flat list of entries in two slices.
 ghost use Rattle.std.specs.Prelude.{◌≡◌, ◌*◌, ◌≤◌, ◌<◌, length, get_or};
 ghost use Rattle.rules.specs.Loops.{has, part};
-ghost use Rattle.rules.specs.Lists.{entries, nodesOf};
-ghost use Rattle.rules.specs.Rows.{live, emptySlot};
+ghost use Rattle.rules.specs.Lists.{entries, nodes_of};
+ghost use Rattle.rules.specs.Rows.{live, empty_slot};
 ghost use Rattle.rules.specs.Distance.{between};
-ghost use Rattle.rules.specs.Build.{slotRead, linkBack, link};
+ghost use Rattle.rules.specs.Build.{slot_read, link_back, link};
 ghost use Rattle.offers.specs.Sound.{Sound};
-ghost use Rattle.links.specs.Links.{Room, Linked, linksOf, linksAll};
+ghost use Rattle.links.specs.Links.{Room, Linked, links_of, links_all};
 
 use rules::{Neighbor, NodeId, Slot};
 
@@ -21,7 +21,7 @@ fn is_linked(
 ) -> bool
     requires q_lt_n { (q.0 < n) × (n ≤ 4096) × (index_size ≤ 64) }
     requires index_size_in_bounds { (n * index_size ≤ length nodes.now) × (n * index_size ≤ length dists.now) }
-    ensures { result ≡ has v.0 (nodesOf (live (part index_size q.0 (entries (n * index_size) nodes.now dists.now)))) }
+    ensures { result ≡ has v.0 (nodes_of (live (part index_size q.0 (entries (n * index_size) nodes.now dists.now)))) }
 {
     let row = q.0 as usize;
     let from = row * index_size;
@@ -46,7 +46,7 @@ fn link_back(
 )
     requires lanes_len { (length lanes.now ≡ n * dimension) × (v.0 < n) × (e.node.0 < n) × Sound n (entries (n * index_size) nodes.old dists.old) }
     requires room { Room n index_size nodes.old dists.old pool_nodes.old pool_dists.old }
-    ensures { Linked n index_size (linkBack (between lanes.now dimension) threshold index_size v.0 e (entries (n * index_size) nodes.old dists.old)) nodes.new dists.new }
+    ensures { Linked n index_size (link_back (between lanes.now dimension) threshold index_size v.0 e (entries (n * index_size) nodes.old dists.old)) nodes.new dists.new }
 {
     let q = e.node;
     if is_linked(n, index_size, nodes, dists, q, v) {
@@ -76,7 +76,7 @@ fn link_back(
 // The slot that link `i` of node `v` reads: i + v. No other function knows which it is.
 fn slot_read(index_size: usize, v: NodeId, i: usize) -> Slot
     requires { (v.0 < 4096) × (i < index_size) × (index_size ≤ 64) }
-    ensures { result.0 ≡ slotRead index_size v.0 i }
+    ensures { result.0 ≡ slot_read index_size v.0 i }
 {
     let first = v.0 as usize;
     Slot(i + first)
@@ -85,7 +85,7 @@ fn slot_read(index_size: usize, v: NodeId, i: usize) -> Slot
 // The entry that stands in a slot.
 fn entry_in(n: usize, index_size: usize, nodes: &[u32], dists: &[f32], slot: Slot) -> Neighbor
     requires { (slot.0 < n * index_size) × (n * index_size ≤ length nodes.now) × (n * index_size ≤ length dists.now) }
-    ensures { result ≡ get_or (entries (n * index_size) nodes.now dists.now) slot.0 (emptySlot 0) }
+    ensures { result ≡ get_or (entries (n * index_size) nodes.now dists.now) slot.0 (empty_slot 0) }
 {
     let at = slot.0;
     Neighbor {
@@ -137,7 +137,7 @@ fn link_node(
 )
     requires lanes_len { (length lanes.now ≡ n * dimension) × (v.0 < n) × Sound n (entries (n * index_size) nodes.old dists.old) }
     requires room { Room n index_size nodes.old dists.old pool_nodes.old pool_dists.old }
-    ensures { Linked n index_size (linksOf (between lanes.now dimension) threshold index_size v.0 (entries (n * index_size) nodes.old dists.old)) nodes.new dists.new }
+    ensures { Linked n index_size (links_of (between lanes.now dimension) threshold index_size v.0 (entries (n * index_size) nodes.old dists.old)) nodes.new dists.new }
 {
     let mut i: usize = 0;
     while i < index_size {
@@ -163,7 +163,7 @@ pub fn link_all(
 )
     requires lanes_len { (length lanes.now ≡ n * dimension) × Sound n (entries (n * index_size) nodes.old dists.old) }
     requires room { Room n index_size nodes.old dists.old pool_nodes.old pool_dists.old }
-    ensures { Linked n index_size (linksAll (between lanes.now dimension) n threshold index_size (entries (n * index_size) nodes.old dists.old)) nodes.new dists.new }
+    ensures { Linked n index_size (links_all (between lanes.now dimension) n threshold index_size (entries (n * index_size) nodes.old dists.old)) nodes.new dists.new }
 {
     let mut v: usize = 0;
     while v < n {

@@ -10,11 +10,11 @@ use lib.ListN.{length, take, drop, get_or, length-reverse, length-map, length-dr
 use lib.Seq.{drop-drop, get_or_at, take_all}
 use borrow.Author.Tests.{ltb-true, ltb-false}
 use Rattle.rules.specs.declared.Neighbor.{Neighbor}
-use Rattle.rules.specs.Lists.{node_of, nodesOf, distancesOf, sort}
+use Rattle.rules.specs.Lists.{node_of, nodes_of, distances_of, sort}
 use Rattle.neighbor.specs.Holdable.{Holdable}
 use Rattle.lists.specs.Ascending.{AllHoldable, Perm, same, next, exchange, chain}
 use Rattle.lists.specs.All.{All}
-use Rattle.lists.proofs.Laws.{sort-is-perm}
+use Rattle.lists.proofs.Laws.{sort-is_perm}
 
 -- what is the same from one place on is so from a later one on
 pub drop-later : {A : Type 0} (a b : ℕ) (xs ys : List A) → a ≤ b → drop a xs ≡ drop a ys → drop b xs ≡ drop b ys
@@ -60,11 +60,11 @@ module _ {A : Type 0} (P : A → Type 0) where
   all_take (suc k) [] X = tt
   all_take (suc k) (x ∷ xs) X = (X.0, all_take k xs X.1)
 
-  pub all-perm : {xs ys : List A} → Perm xs ys → All P xs → All P ys
-  all-perm same X = X
-  all-perm (next p) X = (X.0, all-perm p X.1)
-  all-perm exchange X = (X.1.0, (X.0, X.1.1))
-  all-perm (chain p q) X = all-perm q (all-perm p X)
+  pub all_perm : {xs ys : List A} → Perm xs ys → All P xs → All P ys
+  all_perm same X = X
+  all_perm (next p) X = (X.0, all_perm p X.1)
+  all_perm exchange X = (X.1.0, (X.0, X.1.1))
+  all_perm (chain p q) X = all_perm q (all_perm p X)
 
   pub all-reverse : (xs : List A) → All P xs → All P (reverse xs)
   all-reverse [] X = tt
@@ -79,11 +79,11 @@ module _ {A : Type 0} (P : A → Type 0) where
   all_weaker Q f (x ∷ xs) X = (f x X.0, all_weaker Q f xs X.1)
 
 pub all-sort : (P : Neighbor → Type 0) (es : List Neighbor) → All P es → All P (sort es)
-all-sort P es E = all-perm P (sort-is-perm es) E
+all-sort P es E = all_perm P (sort-is_perm es) E
 
-pub all-holdable : (es : List Neighbor) → All (λ (e : Neighbor). Holdable e.distance) es → AllHoldable es
-all-holdable [] E = tt
-all-holdable (e ∷ es) E = (E.0, all-holdable es E.1)
+pub all_holdable : (es : List Neighbor) → All (λ (e : Neighbor). Holdable e.distance) es → AllHoldable es
+all_holdable [] E = tt
+all_holdable (e ∷ es) E = (E.0, all_holdable es E.1)
 
 -- functions that give the same of each give the same list
 pub map_same : {A B : Type 0} (f g : A → B) (xs : List A) → All (λ (x : A). f x ≡ g x) xs → map f xs ≡ map g xs
@@ -92,12 +92,12 @@ map_same {A} {B} f g (x ∷ xs) X = ap (λ (y : B). y ∷ map f xs) X.0 ∙ ap (
 
 -- ---- the nodes and the distances of a list
 
-pub length-nodes : (l : List Neighbor) → length (nodesOf l) ≡ length l
-unfolding nodesOf
+pub length-nodes : (l : List Neighbor) → length (nodes_of l) ≡ length l
+unfolding nodes_of
 length-nodes l = length-map l node_of
 
-pub length-distances : (l : List Neighbor) → length (distancesOf l) ≡ length l
-unfolding distancesOf
+pub length-distances : (l : List Neighbor) → length (distances_of l) ≡ length l
+unfolding distances_of
 length-distances l = length-map l (λ (e : Neighbor). e.distance)
 
 -- ---- what is lent from a place on

@@ -12,9 +12,9 @@ use lib.Ieee.{Float}
 use Rattle.rules.specs.declared.Neighbor.{Neighbor}
 use Rattle.rules.specs.Loops.{through}
 use Rattle.rules.specs.Distance.{before, zero32}
-use Rattle.rules.specs.Lists.{neighbor, node_of, nodesOf, distancesOf, entries, insert, place, insertAll, sort}
+use Rattle.rules.specs.Lists.{neighbor, node_of, nodes_of, distances_of, entries, insert, place, insert_all, sort}
 use Rattle.lists.specs.Lists.{hole, PlaceFound, PushedCut, Pushed, Popped, SortedIn}
-use Rattle.lists.proofs.Laws.{place_here, place-later, place-nil, insert-place, length-insert, put-cut, take_min, take-before}
+use Rattle.lists.proofs.Laws.{place_here, place-later, place-nil, insert-place, length-insert, put_cut, take_min, take-before}
 
 -- ---- entries
 
@@ -76,35 +76,35 @@ entries-suc zero (x ∷ ns) (y ∷ ds) a d h k = refl
 entries-suc (suc n) (x ∷ ns) (y ∷ ds) a d h k =
     ap (λ (l : List Neighbor). neighbor x y ∷ l) (entries-suc n ns ds a d (le_of_suc-le-suc h) (le_of_suc-le-suc k))
 
-pub getD-entries : (n i : ℕ) (ns : List ℕ) (ds : List Float) (a : ℕ) (d : Float) (z : Neighbor) → i < n → n ≤ length ns → n ≤ length ds
+pub get_d_entries : (n i : ℕ) (ns : List ℕ) (ds : List Float) (a : ℕ) (d : Float) (z : Neighbor) → i < n → n ≤ length ns → n ≤ length ds
     → get_or (entries n ns ds) i z ≡ neighbor (get_or ns i a) (get_or ds i d)
 unfolding entries
-getD-entries zero i ns ds a d z l h k = absurd (not-suc-le-zero l)
-getD-entries (suc n) i [] ds a d z l h k = absurd (not-suc-le-zero h)
-getD-entries (suc n) i (x ∷ ns) [] a d z l h k = absurd (not-suc-le-zero k)
-getD-entries (suc n) zero (x ∷ ns) (y ∷ ds) a d z l h k = refl
-getD-entries (suc n) (suc i) (x ∷ ns) (y ∷ ds) a d z l h k =
-    getD-entries n i ns ds a d z (le_of_suc-le-suc l) (le_of_suc-le-suc h) (le_of_suc-le-suc k)
+get_d_entries zero i ns ds a d z l h k = absurd (not-suc-le-zero l)
+get_d_entries (suc n) i [] ds a d z l h k = absurd (not-suc-le-zero h)
+get_d_entries (suc n) i (x ∷ ns) [] a d z l h k = absurd (not-suc-le-zero k)
+get_d_entries (suc n) zero (x ∷ ns) (y ∷ ds) a d z l h k = refl
+get_d_entries (suc n) (suc i) (x ∷ ns) (y ∷ ds) a d z l h k =
+    get_d_entries n i ns ds a d z (le_of_suc-le-suc l) (le_of_suc-le-suc h) (le_of_suc-le-suc k)
 
 -- the slices of the entries, and back
-pub nodesOf-entries : (n : ℕ) (ns : List ℕ) (ds : List Float) → n ≤ length ds → nodesOf (entries n ns ds) ≡ take n ns
-unfolding entries nodesOf
-nodesOf-entries zero ns ds h = refl
-nodesOf-entries (suc n) [] ds h = refl
-nodesOf-entries (suc n) (x ∷ ns) [] h = absurd (not-suc-le-zero h)
-nodesOf-entries (suc n) (x ∷ ns) (y ∷ ds) h = ap (λ (l : List ℕ). x ∷ l) (nodesOf-entries n ns ds (le_of_suc-le-suc h))
+pub nodes_of-entries : (n : ℕ) (ns : List ℕ) (ds : List Float) → n ≤ length ds → nodes_of (entries n ns ds) ≡ take n ns
+unfolding entries nodes_of
+nodes_of-entries zero ns ds h = refl
+nodes_of-entries (suc n) [] ds h = refl
+nodes_of-entries (suc n) (x ∷ ns) [] h = absurd (not-suc-le-zero h)
+nodes_of-entries (suc n) (x ∷ ns) (y ∷ ds) h = ap (λ (l : List ℕ). x ∷ l) (nodes_of-entries n ns ds (le_of_suc-le-suc h))
 
-pub distancesOf-entries : (n : ℕ) (ns : List ℕ) (ds : List Float) → n ≤ length ns → distancesOf (entries n ns ds) ≡ take n ds
-unfolding entries distancesOf
-distancesOf-entries zero ns ds h = refl
-distancesOf-entries (suc n) [] ds h = absurd (not-suc-le-zero h)
-distancesOf-entries (suc n) (x ∷ ns) [] h = refl
-distancesOf-entries (suc n) (x ∷ ns) (y ∷ ds) h = ap (λ (l : List Float). y ∷ l) (distancesOf-entries n ns ds (le_of_suc-le-suc h))
+pub distances_of-entries : (n : ℕ) (ns : List ℕ) (ds : List Float) → n ≤ length ns → distances_of (entries n ns ds) ≡ take n ds
+unfolding entries distances_of
+distances_of-entries zero ns ds h = refl
+distances_of-entries (suc n) [] ds h = absurd (not-suc-le-zero h)
+distances_of-entries (suc n) (x ∷ ns) [] h = refl
+distances_of-entries (suc n) (x ∷ ns) (y ∷ ds) h = ap (λ (l : List Float). y ∷ l) (distances_of-entries n ns ds (le_of_suc-le-suc h))
 
-pub entries-of : (es : List Neighbor) → entries (length es) (nodesOf es) (distancesOf es) ≡ es
-unfolding entries nodesOf distancesOf
-entries-of [] = refl
-entries-of (e ∷ es) = ap (λ (l : List Neighbor). e ∷ l) (entries-of es)
+pub entries_of : (es : List Neighbor) → entries (length es) (nodes_of es) (distances_of es) ≡ es
+unfolding entries nodes_of distances_of
+entries_of [] = refl
+entries_of (e ∷ es) = ap (λ (l : List Neighbor). e ∷ l) (entries_of es)
 
 -- ---- the search for a place from the front: i entries are passed
 
@@ -124,8 +124,8 @@ module _ {ns : List ℕ} {ds : List Float} {len : ℕ} {e : Neighbor} {i : ℕ} 
         within = inv.within;
       }
 
-  pub passed-turn : (a : ℕ) (d : Float) → i < len → before e (neighbor (get_or ns i a) (get_or ds i d)) ≡ false → Passed ns ds len e (i + 1)
-  passed-turn a d l b =
+  pub passed_turn : (a : ℕ) (d : Float) → i < len → before e (neighbor (get_or ns i a) (get_or ds i d)) ≡ false → Passed ns ds len e (i + 1)
+  passed_turn a d l b =
       let x = neighbor (get_or ns i a) (get_or ds i d) in
       let E = entries len ns ds in
       record {
@@ -151,11 +151,11 @@ module _ {ns : List ℕ} {ds : List Float} {len : ℕ} {e : Neighbor} {i : ℕ} 
 -- ---- a place is made free, from the end down
 
 module _ {A : Type 0} where
-  pub hole-none : (n : ℕ) (xs : List A) → n < length xs → hole n n xs ≡ xs
+  pub hole_none : (n : ℕ) (xs : List A) → n < length xs → hole n n xs ≡ xs
   unfolding hole
-  hole-none n [] h = absurd (not-suc-le-zero h)
-  hole-none zero (x ∷ xs) h = refl
-  hole-none (suc n) (x ∷ xs) h = ap (λ (l : List A). x ∷ l) (hole-none n xs (le_of_suc-le-suc h))
+  hole_none n [] h = absurd (not-suc-le-zero h)
+  hole_none zero (x ∷ xs) h = refl
+  hole_none (suc n) (x ∷ xs) h = ap (λ (l : List A). x ∷ l) (hole_none n xs (le_of_suc-le-suc h))
 
   hole-step : (j n : ℕ) (xs : List A) (z : A) → j < n → n < length xs
       → set (hole (suc j) n xs) (suc j) (get_or (hole (suc j) n xs) j z) ≡ hole j n xs
@@ -167,10 +167,10 @@ module _ {A : Type 0} where
   hole-step (suc j) (suc n) (x ∷ xs) z h k = ap (λ (l : List A). x ∷ l) (hole-step j n xs z (le_of_suc-le-suc h) (le_of_suc-le-suc k))
 
   -- a turn of the loop, with the code's `i - 1`
-  pub hole-turn : (i n : ℕ) (xs ys : List A) (z : A) → 0 < i → i ≤ n → n < length xs → ys ≡ hole i n xs
+  pub hole_turn : (i n : ℕ) (xs ys : List A) (z : A) → 0 < i → i ≤ n → n < length xs → ys ≡ hole i n xs
       → set ys i (get_or ys (i - 1) z) ≡ hole (i - 1) n xs
-  hole-turn zero n xs ys z l h k e = absurd (not-suc-le-zero l)
-  hole-turn (suc j) n xs ys z l h k e = rw (sub-one, e) (hole-step j n xs z h k)
+  hole_turn zero n xs ys z l h k e = absurd (not-suc-le-zero l)
+  hole_turn (suc j) n xs ys z l h k e = rw (sub-one, e) (hole-step j n xs z h k)
 
   length-hole : (p n : ℕ) (xs : List A) → p ≤ n → n < length xs → length (hole p n xs) ≡ length xs
   unfolding hole
@@ -216,16 +216,16 @@ module _ {ns : List ℕ} {ds : List Float} {len k : ℕ} {e : Neighbor} {p : ℕ
         count = omega arith;
         within = l;
         list = sym (take-before k e E (omega arith) ∙ take_all k E (omega arith));
-        nodes-rest = refl;
-        dists-rest = refl;
-        nodes-long = refl;
-        dists-long = refl;
+        nodes_rest = refl;
+        dists_rest = refl;
+        nodes_long = refl;
+        dists_long = refl;
       }
 
   -- otherwise its place is made free and filled
-  pub pushed-cut : (m : ℕ) (ns' : List ℕ) (ds' : List Float) → p < k → m ≡ min len (k - 1) → ns' ≡ hole p m ns → ds' ≡ hole p m ds
+  pub pushed_cut : (m : ℕ) (ns' : List ℕ) (ds' : List Float) → p < k → m ≡ min len (k - 1) → ns' ≡ hole p m ns → ds' ≡ hole p m ds
       → PushedCut ns ds len k e (set ns' p (node_of e)) (set ds' p e.distance) (m + 1)
-  pushed-cut m ns' ds' q c f i =
+  pushed_cut m ns' ds' q c f i =
       let E = entries len ns ds in
       let within = found.within in
       let u : p ≤ m = omega arith in
@@ -240,14 +240,14 @@ module _ {ns : List ℕ} {ds : List Float} {len k : ℕ} {e : Neighbor} {p : ℕ
             rw (f, i, add-one)
             (entries-put p m ns ds (node_of e) e.distance u v w
             ∙ ap (λ (xs : List Neighbor). take p xs ++ e ∷ drop p xs) (sym (take-entries m len ns ds (omega arith)))
-            ∙ sym (put-cut p m e E u)
+            ∙ sym (put_cut p m e E u)
             ∙ ap (λ (n : ℕ). take (suc m) (take n E ++ e ∷ drop n E)) found.at
             ∙ ap (take (suc m)) (insert-place e E)
             ∙ take_min (suc m) k (insert e E) (omega arith));
-        nodes-rest = rw (f, add-one) (drop-hole p m (node_of e) ns u v);
-        dists-rest = rw (i, add-one) (drop-hole p m e.distance ds u w);
-        nodes-long = simp (length-set, f) (length-hole p m ns u v);
-        dists-long = simp (length-set, i) (length-hole p m ds u w);
+        nodes_rest = rw (f, add-one) (drop-hole p m (node_of e) ns u v);
+        dists_rest = rw (i, add-one) (drop-hole p m e.distance ds u w);
+        nodes_long = simp (length-set, f) (length-hole p m ns u v);
+        dists_long = simp (length-set, i) (length-hole p m ds u w);
       }
 
 -- a list that is kept to one more than there were loses none
@@ -260,10 +260,10 @@ pushed-all {ns} {ds} {len} {e} {ns'} {ds'} {r} h g cut =
     record {
       count = omega arith;
       list = cut.list ∙ take_all (len + 1) (insert e E) (omega arith);
-      nodes-rest = cut.nodes-rest;
-      dists-rest = cut.dists-rest;
-      nodes-long = cut.nodes-long;
-      dists-long = cut.dists-long;
+      nodes_rest = cut.nodes_rest;
+      dists_rest = cut.dists_rest;
+      nodes_long = cut.nodes_long;
+      dists_long = cut.dists_long;
     }
 
 pub popped : {ns : List ℕ} {ds : List Float} {len : ℕ} → 1 ≤ len → len ≤ length ns → len ≤ length ds
@@ -283,24 +283,24 @@ popped {ns} {ds} {len} l h k =
 
 pub record Sorting (ns₀ : List ℕ) (ds₀ : List Float) (len : ℕ) (ns : List ℕ) (ds : List Float) (i : ℕ) : Type 0 where
   pub within : i ≤ len
-  pub list : insertAll (drop i (entries len ns₀ ds₀)) (entries i ns ds) ≡ sort (entries len ns₀ ds₀)
-  pub nodes-rest : drop i ns ≡ drop i ns₀
-  pub dists-rest : drop i ds ≡ drop i ds₀
-  pub nodes-long : length ns ≡ length ns₀
-  pub dists-long : length ds ≡ length ds₀
+  pub list : insert_all (drop i (entries len ns₀ ds₀)) (entries i ns ds) ≡ sort (entries len ns₀ ds₀)
+  pub nodes_rest : drop i ns ≡ drop i ns₀
+  pub dists_rest : drop i ds ≡ drop i ds₀
+  pub nodes_long : length ns ≡ length ns₀
+  pub dists_long : length ds ≡ length ds₀
 
-pub sorting-none : {ns : List ℕ} {ds : List Float} {len : ℕ} → Sorting ns ds len ns ds 0
+pub sorting_none : {ns : List ℕ} {ds : List Float} {len : ℕ} → Sorting ns ds len ns ds 0
 unfolding entries sort
-sorting-none = record { within = zero-le; list = refl; nodes-rest = refl; dists-rest = refl; nodes-long = refl; dists-long = refl }
+sorting_none = record { within = zero-le; list = refl; nodes_rest = refl; dists_rest = refl; nodes_long = refl; dists_long = refl }
 
 module _ {ns₀ : List ℕ} {ds₀ : List Float} {len : ℕ} {ns : List ℕ} {ds : List Float} {i : ℕ} (inv : Sorting ns₀ ds₀ len ns ds i) (h : len ≤ length ns₀) (k : len ≤ length ds₀) where
-  pub sorting-turn : {ns' : List ℕ} {ds' : List Float} {r : ℕ} (a : ℕ) (d : Float) → i < len → Pushed ns ds i (neighbor (get_or ns i a) (get_or ds i d)) ns' ds' r → Sorting ns₀ ds₀ len ns' ds' r
-  unfolding insertAll through
-  sorting-turn {ns'} {ds'} {r} a d l made =
-      let u = inv.nodes-long in
-      let v = inv.dists-long in
-      let p = sym (drop-cons ns i a (omega arith)) ∙ inv.nodes-rest ∙ drop-cons ns₀ i a (omega arith) in
-      let q = sym (drop-cons ds i d (omega arith)) ∙ inv.dists-rest ∙ drop-cons ds₀ i d (omega arith) in
+  pub sorting_turn : {ns' : List ℕ} {ds' : List Float} {r : ℕ} (a : ℕ) (d : Float) → i < len → Pushed ns ds i (neighbor (get_or ns i a) (get_or ds i d)) ns' ds' r → Sorting ns₀ ds₀ len ns' ds' r
+  unfolding insert_all through
+  sorting_turn {ns'} {ds'} {r} a d l made =
+      let u = inv.nodes_long in
+      let v = inv.dists_long in
+      let p = sym (drop-cons ns i a (omega arith)) ∙ inv.nodes_rest ∙ drop-cons ns₀ i a (omega arith) in
+      let q = sym (drop-cons ds i d (omega arith)) ∙ inv.dists_rest ∙ drop-cons ds₀ i d (omega arith) in
       let one : r ≡ suc i = made.count ∙ add-one i in
       let x = neighbor (get_or ns i a) (get_or ds i d) in
       let x₀ = neighbor (get_or ns₀ i a) (get_or ds₀ i d) in
@@ -308,19 +308,19 @@ module _ {ns₀ : List ℕ} {ds₀ : List Float} {len : ℕ} {ns : List ℕ} {ds
       record {
         within = omega arith;
         list =
-            ap (λ (j : ℕ). insertAll (drop j (entries len ns₀ ds₀)) (entries r ns' ds')) one
-            ∙ ap (insertAll (drop (suc i) (entries len ns₀ ds₀))) (made.list ∙ ap (λ (y : Neighbor). insert y (entries i ns ds)) same)
-            ∙ ap (λ (l : List Neighbor). insertAll l (entries i ns ds)) (sym (drop-entries len i ns₀ ds₀ a d l h k))
+            ap (λ (j : ℕ). insert_all (drop j (entries len ns₀ ds₀)) (entries r ns' ds')) one
+            ∙ ap (insert_all (drop (suc i) (entries len ns₀ ds₀))) (made.list ∙ ap (λ (y : Neighbor). insert y (entries i ns ds)) same)
+            ∙ ap (λ (l : List Neighbor). insert_all l (entries i ns ds)) (sym (drop-entries len i ns₀ ds₀ a d l h k))
             ∙ inv.list;
-        nodes-rest = made.nodes-rest ∙ ap (λ (j : ℕ). drop j ns) one ∙ (cc) ∙ ap (λ (j : ℕ). drop j ns₀) (sym one);
-        dists-rest = made.dists-rest ∙ ap (λ (j : ℕ). drop j ds) one ∙ (cc) ∙ ap (λ (j : ℕ). drop j ds₀) (sym one);
-        nodes-long = made.nodes-long ∙ u;
-        dists-long = made.dists-long ∙ v;
+        nodes_rest = made.nodes_rest ∙ ap (λ (j : ℕ). drop j ns) one ∙ (cc) ∙ ap (λ (j : ℕ). drop j ns₀) (sym one);
+        dists_rest = made.dists_rest ∙ ap (λ (j : ℕ). drop j ds) one ∙ (cc) ∙ ap (λ (j : ℕ). drop j ds₀) (sym one);
+        nodes_long = made.nodes_long ∙ u;
+        dists_long = made.dists_long ∙ v;
       }
 
-  pub sorting-end : len ≤ i → SortedIn ns₀ ds₀ len ns ds
-  unfolding insertAll through
-  sorting-end l =
+  pub sorting_end : len ≤ i → SortedIn ns₀ ds₀ len ns ds
+  unfolding insert_all through
+  sorting_end l =
       let within = inv.within in
       let E = entries len ns₀ ds₀ in
       let long = length-entries len ns₀ ds₀ h k in
@@ -328,9 +328,9 @@ module _ {ns₀ : List ℕ} {ds₀ : List Float} {len : ℕ} {ns : List ℕ} {ds
       record {
         list =
             ap (λ (j : ℕ). entries j ns ds) all
-            ∙ ap (λ (l : List Neighbor). insertAll l (entries i ns ds)) (sym (drop_of_length-le E {i = i} (omega arith))) ∙ inv.list;
-        nodes-rest = rw all inv.nodes-rest;
-        dists-rest = rw all inv.dists-rest;
-        nodes-long = inv.nodes-long;
-        dists-long = inv.dists-long;
+            ∙ ap (λ (l : List Neighbor). insert_all l (entries i ns ds)) (sym (drop_of_length-le E {i = i} (omega arith))) ∙ inv.list;
+        nodes_rest = rw all inv.nodes_rest;
+        dists_rest = rw all inv.dists_rest;
+        nodes_long = inv.nodes_long;
+        dists_long = inv.dists_long;
       }

@@ -17,18 +17,18 @@ pub record PushedCut (ns : List ℕ) (ds : List Float) (len k : ℕ) (e : Neighb
   pub count : r ≡ min k (len + 1)
   pub within : r ≤ k
   pub list : entries r ns' ds' ≡ take k (insert e (entries len ns ds))
-  pub nodes-rest : drop r ns' ≡ drop r ns
-  pub dists-rest : drop r ds' ≡ drop r ds
-  pub nodes-long : length ns' ≡ length ns
-  pub dists-long : length ds' ≡ length ds
+  pub nodes_rest : drop r ns' ≡ drop r ns
+  pub dists_rest : drop r ds' ≡ drop r ds
+  pub nodes_long : length ns' ≡ length ns
+  pub dists_long : length ds' ≡ length ds
 
 pub record Pushed (ns : List ℕ) (ds : List Float) (len : ℕ) (e : Neighbor) (ns' : List ℕ) (ds' : List Float) (r : ℕ) : Type 0 where
   pub count : r ≡ len + 1
   pub list : entries r ns' ds' ≡ insert e (entries len ns ds)
-  pub nodes-rest : drop r ns' ≡ drop r ns
-  pub dists-rest : drop r ds' ≡ drop r ds
-  pub nodes-long : length ns' ≡ length ns
-  pub dists-long : length ds' ≡ length ds
+  pub nodes_rest : drop r ns' ≡ drop r ns
+  pub dists_rest : drop r ds' ≡ drop r ds
+  pub nodes_long : length ns' ≡ length ns
+  pub dists_long : length ds' ≡ length ds
 
 -- "unused places are zero": the place that is freed is zeroed
 pub record Popped (ns : List ℕ) (ds : List Float) (len : ℕ) (ns' : List ℕ) (ds' : List Float) (r : ℕ) : Type 0 where
@@ -39,7 +39,7 @@ pub record Popped (ns : List ℕ) (ds : List Float) (len : ℕ) (ns' : List ℕ)
 
 pub record SortedIn (ns : List ℕ) (ds : List Float) (len : ℕ) (ns' : List ℕ) (ds' : List Float) : Type 0 where
   pub list : entries len ns' ds' ≡ sort (entries len ns ds)
-  pub nodes-rest : drop len ns' ≡ drop len ns
-  pub dists-rest : drop len ds' ≡ drop len ds
-  pub nodes-long : length ns' ≡ length ns
-  pub dists-long : length ds' ≡ length ds
+  pub nodes_rest : drop len ns' ≡ drop len ns
+  pub dists_rest : drop len ds' ≡ drop len ds
+  pub nodes_long : length ns' ≡ length ns
+  pub dists_long : length ds' ≡ length ds

@@ -15,16 +15,16 @@ use Rattle.rules.specs.Build.{Between}
 use Rattle.rules.specs.Loops.{part}
 use Rattle.rules.specs.Lists.{neighbor}
 use Rattle.rules.specs.Offers.{offer}
-use Rattle.rules.specs.Descent.{pair, offerTo, update, visit, meet}
-use Rattle.rules.specs.Places.{listsIn}
+use Rattle.rules.specs.Descent.{pair, offer_to, update, visit, meet}
+use Rattle.rules.specs.Places.{lists_in}
 use Rattle.rules.proofs.Loops.{row_in}
 use Rattle.buffers.specs.Area.{area}
 use Rattle.buffers.proofs.Places.{length-area, put-length}
 use Rattle.lists.proofs.Plain.{drop-later}
 use Rattle.steps.specs.Steps.{OfferedTo}
 use Rattle.visits.specs.Marks as visits
-use Rattle.meets.specs.Meets.{OfferedIn, Updated, Does, marksAt}
-use Rattle.meets.proofs.Lists.{list-in, lists-front, lists-put, put-behind}
+use Rattle.meets.specs.Meets.{OfferedIn, Updated, Does, marks_at}
+use Rattle.meets.proofs.Lists.{list_in_lem, lists-front, lists-put, put-behind}
 
 -- ---- where node u's list lies
 
@@ -32,77 +32,77 @@ pub record Where (n k u : ℕ) : Type 0 where
   pub inside : u * k + k ≤ n * k
   pub small : n * k ≤ 65536
 
-pub where-is : (n k u : ℕ) → u < n → n ≤ 1024 → k ≤ 64 → Where n k u
-where-is n k u h few narrow = let m : n * k ≤ 1024 * 64 = mul-le-mul few narrow in record { inside = row_in n k u h; small = omega arith }
+pub where_is : (n k u : ℕ) → u < n → n ≤ 1024 → k ≤ 64 → Where n k u
+where_is n k u h few narrow = let m : n * k ≤ 1024 * 64 = mul-le-mul few narrow in record { inside = row_in n k u h; small = omega arith }
 
 -- ---- one offer
 
 module _ (n k u : ℕ) (us : List ℕ) (fs : List Float) (below : u < n) (few : n ≤ 1024) (narrow : k ≤ 64) (room : n * k ≤ length us) (space : n * k ≤ length fs) where
-  pub offered-in : {w : ℕ} {e : Neighbor} {ys : List ℕ} {zs : List Float} → w ≡ k → OfferedTo (area (u * k) w us) (area (u * k) w fs) k e ys zs
+  pub offered_in : {w : ℕ} {e : Neighbor} {ys : List ℕ} {zs : List Float} → w ≡ k → OfferedTo (area (u * k) w us) (area (u * k) w fs) k e ys zs
       → OfferedIn n k u e us fs (put_mid (u * k) w us ys) (put_mid (u * k) w fs zs)
   unfolding part
-  offered-in {w} {e} {ys} {zs} same o' =
+  offered_in {w} {e} {ys} {zs} same o' =
       let o : OfferedTo (area (u * k) k us) (area (u * k) k fs) k e ys zs = rw same at o' in
-      let at = where-is n k u below few narrow in
+      let at = where_is n k u below few narrow in
       let fits = at.inside in
-      let ys-long : length ys ≡ k = o.nodes-long ∙ length-area (u * k) k us (omega arith) in
-      let zs-long : length zs ≡ k = o.dists-long ∙ length-area (u * k) k fs (omega arith) in
+      let ys_long : length ys ≡ k = o.nodes_long ∙ length-area (u * k) k us (omega arith) in
+      let zs_long : length zs ≡ k = o.dists_long ∙ length-area (u * k) k fs (omega arith) in
       rw same
       (record {
         lists =
-            lists-put n k us ys fs zs u below room space ys-long zs-long
-            ∙ ap (set (listsIn n k us fs) u) (o.list ∙ ap (offer k e) (sym (list-in n k us fs u below)));
-        rest = put-behind (u * k) k us ys (n * k) fits room ys-long;
-        words_long = put-length (u * k) k us ys (omega arith) ys-long;
-        floats-long = put-length (u * k) k fs zs (omega arith) zs-long;
+            lists-put n k us ys fs zs u below room space ys_long zs_long
+            ∙ ap (set (lists_in n k us fs) u) (o.list ∙ ap (offer k e) (sym (list_in_lem n k us fs u below)));
+        rest = put-behind (u * k) k us ys (n * k) fits room ys_long;
+        words_long = put-length (u * k) k us ys (omega arith) ys_long;
+        floats_long = put-length (u * k) k fs zs (omega arith) zs_long;
       })
 
 -- ---- an update
 
 module _ (d : Between) (n k u v : ℕ) where
-  pub updated-not : (us : List ℕ) (fs : List Float) → u ≡ v → Updated d n k u v us fs us fs 0
+  pub updated_not : (us : List ℕ) (fs : List Float) → u ≡ v → Updated d n k u v us fs us fs 0
   unfolding update
-  updated-not us fs e =
+  updated_not us fs e =
       let same = eq-eqb u v e in
-      record { lists = rw same; rest = refl; words_long = refl; floats-long = refl; counted = rw same; one = omega arith }
+      record { lists = rw same; rest = refl; words_long = refl; floats_long = refl; counted = rw same; one = omega arith }
 
-  pub updated-both : {us us' us'' : List ℕ} {fs fs' fs'' : List Float} {x : Float} → (u ≡ v → ⊥) → x ≡ d u v
+  pub updated_both : {us us' us'' : List ℕ} {fs fs' fs'' : List Float} {x : Float} → (u ≡ v → ⊥) → x ≡ d u v
       → OfferedIn n k u (neighbor v x) us fs us' fs' → OfferedIn n k v (neighbor u x) us' fs' us'' fs'' → Updated d n k u v us fs us'' fs'' 1
-  unfolding update offerTo
-  updated-both {us} {us'} {us''} {fs} {fs'} {fs''} {x} e f a b =
+  unfolding update offer_to
+  updated_both {us} {us'} {us''} {fs} {fs'} {fs''} {x} e f a b =
       let apart = ne_eqb u v e in
-      let step : listsIn n k us'' fs'' ≡ offerTo k v u x (offerTo k u v x (listsIn n k us fs)) = b.lists ∙ ap (offerTo k v u x) a.lists in
+      let step : lists_in n k us'' fs'' ≡ offer_to k v u x (offer_to k u v x (lists_in n k us fs)) = b.lists ∙ ap (offer_to k v u x) a.lists in
       record {
         lists = rw (apart, ← f) step;
         rest = b.rest ∙ a.rest;
         words_long = b.words_long ∙ a.words_long;
-        floats-long = b.floats-long ∙ a.floats-long;
+        floats_long = b.floats_long ∙ a.floats_long;
         counted = rw apart;
         one = omega arith;
       }
 
   -- ---- marks both ways
 
-  pub met-both : {us us' us'' us''' : List ℕ} {fs fs' : List Float} {r cost : ℕ} → length us ≡ marksAt n k + visits.marks n
-      → Updated d n k u v us fs us' fs' r → visits.Marked (marksAt n k) n (visit n u v) us' us'' → visits.Marked (marksAt n k) n (visit n v u) us'' us'''
+  pub met_both : {us us' us'' us''' : List ℕ} {fs fs' : List Float} {r cost : ℕ} → length us ≡ marks_at n k + visits.marks n
+      → Updated d n k u v us fs us' fs' r → visits.Marked (marks_at n k) n (visit n u v) us' us'' → visits.Marked (marks_at n k) n (visit n v u) us'' us'''
       → Does n k 1 (meet d n k (pair u v)) us fs cost us''' fs' (cost + r)
   unfolding meet
-  met-both {us} {us'} {us''} {us'''} {fs} {fs'} {r} {cost} long up a b =
+  met_both {us} {us'} {us''} {us'''} {fs} {fs'} {r} {cost} long up a b =
       let l = up.words_long in
       let l' = a.long in
       record {
         held = λ m h.
             record {
               lists =
-                  lists-front n k (marksAt n k) us' us''' fs' (omega arith) (omega arith) (b.long ∙ a.long) (b.front ∙ a.front)
+                  lists-front n k (marks_at n k) us' us''' fs' (omega arith) (omega arith) (b.long ∙ a.long) (b.front ∙ a.front)
                   ∙ up.lists ∙ ap (update d k (pair u v)) h.lists;
               marks =
                   b.marked (visit n u v m.visited) (a.marked m.visited
-                  (record { words = drop-later (n * k) (marksAt n k) us' us (omega arith) up.rest ∙ h.marks.words; long = h.marks.long }));
+                  (record { words = drop-later (n * k) (marks_at n k) us' us (omega arith) up.rest ∙ h.marks.words; long = h.marks.long }));
               counted = ap₂ ◌+◌ h.counted up.counted ∙ added (eqb u v) m.cost;
             };
         words_long = b.long ∙ a.long ∙ up.words_long;
-        floats-long = up.floats-long;
+        floats_long = up.floats_long;
         most = let one = up.one in omega arith;
       }
     where
@@ -111,8 +111,8 @@ module _ (d : Between) (n k u v : ℕ) where
       added false c = omega arith
 
 -- the lanes of a node below n
-pub lanes-in : (n dimension i room : ℕ) → i < n → room ≡ n * dimension → (i + 1) * dimension ≤ room
-lanes-in n dimension i room h e =
+pub lanes_in : (n dimension i room : ℕ) → i < n → room ≡ n * dimension → (i + 1) * dimension ≤ room
+lanes_in n dimension i room h e =
     let one : i + 1 ≡ suc i = omega arith in
     let within : suc i * dimension ≤ n * dimension = mul-le-mul_right dimension h in
     rw (one, e) within

@@ -9,12 +9,12 @@ use borrow.Rule.Slice.PartMut.{put_mid, same_len_mid}
 use Rattle.rules.specs.Loops.{turns, over}
 use Rattle.rules.specs.Places.{padded}
 use Rattle.rules.specs.Descent.{Context}
-use Rattle.rules.specs.DescentPlaces.{memberWords, contextWords}
+use Rattle.rules.specs.DescentPlaces.{member_words, context_words}
 use Rattle.rules.proofs.Places.{drop-replicate}
 
 pub put : (src dst ys : List ℕ) (w : ℕ) → length dst ≡ 65 → w ≡ 64 → ys ≡ over (length src) src (take w (drop 1 (set (replicate (length dst) 0) 0 (length src))))
-    → put_mid 1 w (set (replicate (length dst) 0) 0 (length src)) ys ≡ memberWords src
-unfolding memberWords padded over
+    → put_mid 1 w (set (replicate (length dst) 0) 0 (length src)) ys ≡ member_words src
+unfolding member_words padded over
 put src dst ys w l e f =
     let n = length src in
     let g : ys ≡ src ++ replicate (64 - n) 0 =
@@ -39,9 +39,9 @@ module _ (dst : List ℕ) {zs : List ℕ} (long : length dst ≡ 65) (zeroed : z
   pub put-long : (ys : List ℕ) → length ys ≡ length (take (length (set zs 0 n) - 1) (drop 1 (set zs 0 n))) → length (put_mid 1 (length (set zs 0 n) - 1) (set zs 0 n) ys) ≡ length dst
   put-long ys e = same_len_mid 1 (length (set zs 0 n) - 1) (set zs 0 n) ys e ∙ set_long ∙ sym long
 
-pub put-zeroed : (src dst zs ys : List ℕ) → length dst ≡ 65 → zs ≡ replicate (length dst) 0 → ys ≡ over (length src) src (take (length (set zs 0 (length src)) - 1) (drop 1 (set zs 0 (length src))))
-    → put_mid 1 (length (set zs 0 (length src)) - 1) (set zs 0 (length src)) ys ≡ memberWords src
-put-zeroed src dst zs ys l z f =
+pub put_zeroed : (src dst zs ys : List ℕ) → length dst ≡ 65 → zs ≡ replicate (length dst) 0 → ys ≡ over (length src) src (take (length (set zs 0 (length src)) - 1) (drop 1 (set zs 0 (length src))))
+    → put_mid 1 (length (set zs 0 (length src)) - 1) (set zs 0 (length src)) ys ≡ member_words src
+put_zeroed src dst zs ys l z f =
     let n = length src in
     let s = set_long dst l z n in
     let w : length (set zs 0 n) - 1 ≡ 64 = omega arith in
@@ -57,21 +57,21 @@ area_in (suc a) m (suc c) (x ∷ xs) l = area_in a m c xs (omega arith)
 
 -- ---- the contexts of all nodes as words
 
-pub words_append : (xs ys : List Context) → contextWords (xs ++ ys) ≡ contextWords xs ++ contextWords ys
-unfolding contextWords
+pub words_append : (xs ys : List Context) → context_words (xs ++ ys) ≡ context_words xs ++ context_words ys
+unfolding context_words
 words_append [] ys = refl
 words_append (c ∷ xs) ys =
-    let a = memberWords c.new in
-    let b = memberWords c.old in
-    let d = memberWords c.reversed-new in
-    let e = memberWords c.reversed-old in
+    let a = member_words c.new in
+    let b = member_words c.old in
+    let d = member_words c.reversed_new in
+    let e = member_words c.reversed_old in
     ap (λ (l : List ℕ). a ++ (b ++ (d ++ (e ++ l)))) (words_append xs ys)
     ∙ sym
-    (append_assoc a (b ++ (d ++ (e ++ contextWords xs))) (contextWords ys)
+    (append_assoc a (b ++ (d ++ (e ++ context_words xs))) (context_words ys)
     ∙ ap (λ (l : List ℕ). a ++ l)
-    (append_assoc b (d ++ (e ++ contextWords xs)) (contextWords ys)
+    (append_assoc b (d ++ (e ++ context_words xs)) (context_words ys)
     ∙ ap (λ (l : List ℕ). b ++ l)
-    (append_assoc d (e ++ contextWords xs) (contextWords ys) ∙ ap (λ (l : List ℕ). d ++ l) (append_assoc e (contextWords xs) (contextWords ys)))))
+    (append_assoc d (e ++ context_words xs) (context_words ys) ∙ ap (λ (l : List ℕ). d ++ l) (append_assoc e (context_words xs) (context_words ys)))))
 
 -- ---- loops over n nodes that do the same for each node
 

@@ -11,7 +11,7 @@ use lib.Ieee.Bits.{of_bits-fits}
 use borrow.Author.Tests.{leb-true}
 use Rattle.rules.specs.declared.Distance.{Distance}
 use Rattle.rules.specs.declared.Distance.TheVariants.{Fit, Unfit}
-use Rattle.rules.specs.Distance.{total_of, fit, answer, largest, zero32, distance_of, unfit, carried, lanes_of, nodesApart, queryApart, between}
+use Rattle.rules.specs.Distance.{total_of, fit, answer, largest, zero32, distance_of, unfit, carried, lanes_of, nodes_apart, query_apart, between}
 use Rattle.rules.proofs.Distances.{total-fits}
 
 -- ---- a fit value
@@ -30,9 +30,9 @@ pub record Plain (x : Float) : Type 0 where
   pub exponent : ℤ
   pub is : x ≡ fin false digits exponent
 
-pub fit-plain : (x : Float) → fit x ≡ true → Plain x
+pub fit_plain : (x : Float) → fit x ≡ true → Plain x
 unfolding to_bits
-fit-plain x h = go x (fit-bits x h)
+fit_plain x h = go x (fit-bits x h)
   where
     go : (x : Float) → to_bits binary32 x ≤ largest → Plain x
     go nan l = absurd (omega arith)
@@ -60,11 +60,11 @@ carried-fits a b = go (fit (total_of zero32 a b))
     go false = of_bits-fits binary32 0
 
 pub between-fit : (lanes : List Float) (dimension i j : ℕ) → fit (between lanes dimension i j) ≡ true
-unfolding between nodesApart
+unfolding between nodes_apart
 between-fit lanes dimension i j = carried-fit (lanes_of lanes dimension i) (lanes_of lanes dimension j)
 
 pub between-fits : (lanes : List Float) (dimension i j : ℕ) → T (fits binary32 (between lanes dimension i j))
-unfolding between nodesApart
+unfolding between nodes_apart
 between-fits lanes dimension i j = carried-fits (lanes_of lanes dimension i) (lanes_of lanes dimension j)
 
 -- what any distance answer that carries a distance says of it
@@ -77,13 +77,13 @@ module _ (a b : List Float) (x : Float) (e : distance_of a b ≡ Fit x) where
   unfolding carried
   distance-fits = rw e at (carried-fits a b)
 
-module _ (lanes : List Float) (dimension : ℕ) (query : List Float) (i : ℕ) (x : Float) (e : queryApart lanes dimension query i ≡ Fit x) where
+module _ (lanes : List Float) (dimension : ℕ) (query : List Float) (i : ℕ) (x : Float) (e : query_apart lanes dimension query i ≡ Fit x) where
   pub query-fit : fit x ≡ true
-  unfolding queryApart
+  unfolding query_apart
   query-fit = distance-fit (lanes_of lanes dimension i) query x e
 
   pub query-fits : T (fits binary32 x)
-  unfolding queryApart
+  unfolding query_apart
   query-fits = distance-fits (lanes_of lanes dimension i) query x e
 
 -- an answer that is not unfit is the one that carries its distance

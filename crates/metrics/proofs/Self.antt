@@ -11,7 +11,7 @@ use lib.Ieee.{Float, nan, inf, fin, binary32, up, down, round, add, sub, mul, of
 use lib.Ieee.Fits.{down_pos}
 use lib.Ieee.Scale.{round_same, finite}
 use Rattle.rules.specs.declared.Distance.TheVariants.{Fit}
-use Rattle.rules.specs.Distance.{lane, total_of, fit, answer, zero32, distance_of, lanes_of, nodesApart, carried, between}
+use Rattle.rules.specs.Distance.{lane, total_of, fit, answer, zero32, distance_of, lanes_of, nodes_apart, carried, between}
 use Rattle.metrics.specs.Finite.{AllFinite}
 use Rattle.metrics.proofs.Symmetry.{size, square, spread, size-sum}
 
@@ -31,19 +31,19 @@ no_gap (fin s m e) h =
     gap true a = omega arith
     gap false a = omega arith
 
-lane-self : (x : Float) → T (finite x) → lane zero32 x x ≡ zero32
+lane_self : (x : Float) → T (finite x) → lane zero32 x x ≡ zero32
 unfolding lane add mul of_bits
-lane-self x h = rw (square binary32 (sub binary32 x x), no_gap x h)
+lane_self x h = rw (square binary32 (sub binary32 x x), no_gap x h)
 
-pub total-self : (a : List Float) → AllFinite a → total_of zero32 a a ≡ zero32
+pub total_self : (a : List Float) → AllFinite a → total_of zero32 a a ≡ zero32
 unfolding total_of AllFinite
-total-self [] h = refl
-total-self (x ∷ a) h = ap (λ (z : Float). total_of z a a) (lane-self x h.0) ∙ total-self a h.1
+total_self [] h = refl
+total_self (x ∷ a) h = ap (λ (z : Float). total_of z a a) (lane_self x h.0) ∙ total_self a h.1
 
 pub distance_self : (a : List Float) → AllFinite a → distance_of a a ≡ Fit zero32
 unfolding distance_of answer fit to_bits of_bits
-distance_self a h = ap answer (total-self a h)
+distance_self a h = ap answer (total_self a h)
 
-pub between-self : (lanes : List Float) (dimension i : ℕ) → AllFinite (lanes_of lanes dimension i) → between lanes dimension i i ≡ zero32
-unfolding between nodesApart carried
-between-self lanes dimension i h = ap carried (distance_self (lanes_of lanes dimension i) h)
+pub between_self : (lanes : List Float) (dimension i : ℕ) → AllFinite (lanes_of lanes dimension i) → between lanes dimension i i ≡ zero32
+unfolding between nodes_apart carried
+between_self lanes dimension i h = ap carried (distance_self (lanes_of lanes dimension i) h)

@@ -15,14 +15,14 @@ use borrow.Author.Tests.{le-leb, lt-leb}
 use Rattle.rules.specs.declared.Distance.{Distance}
 use Rattle.rules.specs.declared.Distance.TheVariants.{Fit, Unfit}
 use Rattle.rules.specs.Loops.{part}
-use Rattle.rules.specs.Distance.{lane, total_of, fit, answer, largest, zero32, distance_of, lanes_of, measureOf}
+use Rattle.rules.specs.Distance.{lane, total_of, fit, answer, largest, zero32, distance_of, lanes_of, measure_of}
 use Rattle.metrics.specs.Measured.{Lanes, Measured}
 
 -- ---- a node's part
 
-pub lanes-long : (lanes : List Float) (dimension node : ℕ) → (node + 1) * dimension ≤ length lanes → length (lanes_of lanes dimension node) ≡ dimension
+pub lanes_long : (lanes : List Float) (dimension node : ℕ) → (node + 1) * dimension ≤ length lanes → length (lanes_of lanes dimension node) ≡ dimension
 unfolding lanes_of part
-lanes-long lanes dimension node h =
+lanes_long lanes dimension node h =
     let room : dimension ≤ length (drop (node * dimension) lanes) = simp length-drop (omega arith) in
     length-take-le dimension (drop (node * dimension) lanes) room
 
@@ -32,7 +32,7 @@ pub part_of : (lanes : List Float) (dimension node : ℕ) → (node + 1) * dimen
 unfolding lanes_of part
 part_of lanes dimension node h =
     let e : node * dimension + dimension - node * dimension ≡ dimension = omega arith in
-    rw e (record { contents = refl; long = lanes-long lanes dimension node h })
+    rw e (record { contents = refl; long = lanes_long lanes dimension node h })
 
 -- a node below n has its lanes within n times dimension
 pub room : (long n dimension : ℕ) (i : ℕ) → long ≡ n * dimension → i < n → (i + 1) * dimension ≤ long
@@ -63,20 +63,20 @@ pub of_nan : (x : Float) → ne x x ≡ true → answer x ≡ Unfit
 unfolding answer fit to_bits
 of_nan x e = ap answer (differs_from_itself x (subst T (sym e) tt))
 
-pub of-fit : (x : Float) → to_bits binary32 x ≤ largest → answer x ≡ Fit x
+pub of_fit : (x : Float) → to_bits binary32 x ≤ largest → answer x ≡ Fit x
 unfolding answer fit
-of-fit x h = rw (le-leb (to_bits binary32 x) largest h)
+of_fit x h = rw (le-leb (to_bits binary32 x) largest h)
 
-pub of-unfit : (x : Float) → largest < to_bits binary32 x → answer x ≡ Unfit
+pub of_unfit : (x : Float) → largest < to_bits binary32 x → answer x ≡ Unfit
 unfolding answer fit
-of-unfit x h = rw (lt-leb (to_bits binary32 x) largest h)
+of_unfit x h = rw (lt-leb (to_bits binary32 x) largest h)
 
 -- the answer of the whole total is the distance
 pub measured : (a b : List Float) (r : Distance) (t : Float) → answer t ≡ r → t ≡ total_of zero32 a b → Measured a b r
 unfolding distance_of
 measured a b r t e w =
     let d : r ≡ distance_of a b = sym e ∙ ap answer w in
-    record { answer = d; said = ap measureOf d }
+    record { answer = d; said = ap measure_of d }
 
 -- the distance of the lanes that were cut out
 pub of_parts : (r : Distance) (x y a b : List Float) → Measured x y r → x ≡ a → y ≡ b → r ≡ distance_of a b

@@ -8,7 +8,7 @@ use native.Mathlib.Omega.{arith}
 use lib.Dec.{T, ltb, ltb→lt, nltb→le}
 use lib.Ieee.{Float, nan, inf, fin, Format, binary32, prec, emax, low, up, down, odd, units, round, sum, add, sub, mul}
 use lib.Ieee.Fits.{round_is}
-use Rattle.rules.specs.Distance.{lane, total_of, answer, zero32, distance_of, lanes_of, nodesApart, between, carried}
+use Rattle.rules.specs.Distance.{lane, total_of, answer, zero32, distance_of, lanes_of, nodes_apart, between, carried}
 
 -- ---- a value without its sign
 
@@ -28,17 +28,17 @@ square f (fin false m e) = refl
 -- rounding looks at the sign last
 pub size-round : (f : Format) (s : Bool) (a c : ℕ) → size (round f s a c) ≡ round f false a c
 unfolding odd units
-size-round f s a c = ap size (round_is f s a c) ∙ in-units _ _ ∙ sym (round_is f false a c)
+size-round f s a c = ap size (round_is f s a c) ∙ in_units _ _ ∙ sym (round_is f false a c)
   where
-    in-odd : (d q k l : ℕ) → size (odd d s q k l) ≡ odd d false q k l
-    in-odd d zero k l = refl
-    in-odd d (suc q) k l = refl
+    in_odd : (d q k l : ℕ) → size (odd d s q k l) ≡ odd d false q k l
+    in_odd d zero k l = refl
+    in_odd d (suc q) k l = refl
 
-    in-units : (q k : ℕ) → size (units f s q k) ≡ units f false q k
-    in-units q k = go (ltb (q * 2 ^ k) (2 ^ (low f + suc (emax f))))
+    in_units : (q k : ℕ) → size (units f s q k) ≡ units f false q k
+    in_units q k = go (ltb (q * 2 ^ k) (2 ^ (low f + suc (emax f))))
       where
         go : (b : Bool) → size (cond b (odd (suc (prec f)) s q k (low f)) (inf s)) ≡ cond b (odd (suc (prec f)) false q k (low f)) (inf false)
-        go true = in-odd (suc (prec f)) q k (low f)
+        go true = in_odd (suc (prec f)) q k (low f)
         go false = refl
 
 -- ---- a sum without its sign: of one sign the sum of the two, of two the gap
@@ -105,8 +105,8 @@ pub distance-symmetric : (a b : List Float) → distance_of a b ≡ distance_of 
 unfolding distance_of
 distance-symmetric a b = ap answer (total-symmetric zero32 a b)
 
-pub apart-symmetric : (lanes : List Float) (dimension i j : ℕ) → nodesApart lanes dimension i j ≡ nodesApart lanes dimension j i
-unfolding nodesApart
+pub apart-symmetric : (lanes : List Float) (dimension i j : ℕ) → nodes_apart lanes dimension i j ≡ nodes_apart lanes dimension j i
+unfolding nodes_apart
 apart-symmetric lanes dimension i j = distance-symmetric (lanes_of lanes dimension i) (lanes_of lanes dimension j)
 
 pub between-symmetric : (lanes : List Float) (dimension i j : ℕ) → between lanes dimension i j ≡ between lanes dimension j i

@@ -1,7 +1,7 @@
 -- A node's lanes and a distance answer, each by the rulebook's definition. Assumes nothing.
 use Rattle.std.specs.Prelude.{◌≡◌, List, ℕ, length, Float}
 use Rattle.rules.specs.declared.Distance.{Distance}
-use Rattle.rules.specs.Distance.{distance_of, lanes_of, measureOf}
+use Rattle.rules.specs.Distance.{distance_of, lanes_of, measure_of}
 
 -- "lanes in one f32 slice": the part that a node has of it
 pub record Lanes (lanes : List Float) (dimension node : ℕ) (part : List Float) : Type 0 where
@@ -11,4 +11,4 @@ pub record Lanes (lanes : List Float) (dimension node : ℕ) (part : List Float)
 -- a distance answer, and 01's number and value of it
 pub record Measured (a b : List Float) (r : Distance) : Type 0 where
   pub answer : r ≡ distance_of a b
-  pub said : measureOf r ≡ measureOf (distance_of a b)
+  pub said : measure_of r ≡ measure_of (distance_of a b)

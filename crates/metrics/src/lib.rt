@@ -1,7 +1,7 @@
 // Distances: the lanes of a node, the distance answer of two, and the first pair that is unfit.
 ghost use Rattle.std.specs.Prelude.{◌≡◌, [], ◌∷◌, ◌+◌, ◌*◌, ◌≤◌, ◌<◌, length, eqb};
-ghost use Rattle.rules.specs.Distance.{nodesApart, queryApart, unfit, carried, between};
-ghost use Rattle.rules.specs.Refusals.{decide, decisionOf, row10, unfitAfter};
+ghost use Rattle.rules.specs.Distance.{nodes_apart, query_apart, unfit, carried, between};
+ghost use Rattle.rules.specs.Refusals.{decide, decision_of, row10, unfit_after};
 ghost use Rattle.metrics.specs.Measured.{Lanes, Measured};
 
 use rules::{Answer, Distance, NodeId, Refusal};
@@ -50,7 +50,7 @@ pub fn metric(a: &[f32], b: &[f32]) -> Distance
 /// The distance answer of a node and a query (hora's `Node::metric`).
 pub fn query_distance(lanes: &[f32], dimension: usize, query: &[f32], i: NodeId) -> Distance
     requires { (length query.now ≡ dimension) × ((i.0 + 1) * dimension ≤ length lanes.now) }
-    ensures { result ≡ queryApart lanes.now dimension query.now i.0 }
+    ensures { result ≡ query_apart lanes.now dimension query.now i.0 }
 {
     let x = lanes_of(lanes, dimension, i);
     metric(x, query)
@@ -59,7 +59,7 @@ pub fn query_distance(lanes: &[f32], dimension: usize, query: &[f32], i: NodeId)
 /// The distance answer of two nodes (hora's `Node::metric`).
 pub fn node_distance(lanes: &[f32], dimension: usize, i: NodeId, j: NodeId) -> Distance
     requires { ((i.0 + 1) * dimension ≤ length lanes.now) × ((j.0 + 1) * dimension ≤ length lanes.now) }
-    ensures { result ≡ nodesApart lanes.now dimension i.0 j.0 }
+    ensures { result ≡ nodes_apart lanes.now dimension i.0 j.0 }
 {
     let x = lanes_of(lanes, dimension, i);
     let y = lanes_of(lanes, dimension, j);
@@ -97,7 +97,7 @@ pub fn between(lanes: &[f32], dimension: usize, i: NodeId, j: NodeId) -> f32
 // The first node after i that is unfit with it, or n.
 fn unfit_after(lanes: &[f32], dimension: usize, n: usize, i: NodeId) -> usize
     requires { (length lanes.now ≡ n * dimension) × (n ≤ 4096) × (i.0 < n) }
-    ensures { result ≡ unfitAfter (nodesApart lanes.now dimension) n i.0 }
+    ensures { result ≡ unfit_after (nodes_apart lanes.now dimension) n i.0 }
 {
     let mut j = i.0 as usize + 1;
     while j < n {
@@ -113,7 +113,7 @@ fn unfit_after(lanes: &[f32], dimension: usize, n: usize, i: NodeId) -> usize
 /// Row 10 of build, begin and iteration: the first unfit pair i < j, i rising and then j.
 pub fn first_unfit(lanes: &[f32], dimension: usize, n: usize) -> Answer
     requires { (length lanes.now ≡ n * dimension) × (n ≤ 4096) }
-    ensures { decisionOf result ≡ decide (row10 (nodesApart lanes.now dimension) n ∷ []) }
+    ensures { decision_of result ≡ decide (row10 (nodes_apart lanes.now dimension) n ∷ []) }
 {
     let mut i = 0usize;
     while i < n {

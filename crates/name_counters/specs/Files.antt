@@ -6,5 +6,5 @@ unfoldable pub first_of : ℕ → ℕ
 first_of count = cond (nat_lt count 2) 0 1
 
 -- "`-` is standard input"
-unfoldable pub isDash : List ℕ → Bool
-isDash name = length name == 1 && slice_index name 0 == 45
+unfoldable pub is_dash : List ℕ → Bool
+is_dash name = length name == 1 && slice_index name 0 == 45

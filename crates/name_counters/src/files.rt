@@ -1,6 +1,6 @@
 // Which files are read: those that the arguments name. Argument 0, the program's own name, stands for standard input.
 ghost use Rattle.std.specs.Prelude.{◌≡◌, nat_le};
-ghost use Rattle.name_counters.specs.Files.{first_of, isDash};
+ghost use Rattle.name_counters.specs.Files.{first_of, is_dash};
 
 /// Whether a file of which so many bytes were read is too long: there is room for one byte more than a game may have.
 pub fn too_long(n: usize) -> bool
@@ -21,7 +21,7 @@ pub fn first(count: usize) -> usize
 
 /// Whether an argument is the `-` of standard input.
 pub fn is_dash(name: &[u8]) -> bool
-    ensures { result ≡ isDash name.now }
+    ensures { result ≡ is_dash name.now }
 {
     if name.len() != 1 {
         return false;

@@ -1,6 +1,6 @@
 // Names counters: reads the games that its arguments name, teaches each, looks its queries up, and prints a table for a person and tables for a program.
 ghost use Rattle.std.specs.Prelude.{◌≡◌};
-ghost use Rattle.name_counters.specs.Messages.{lineStart};
+ghost use Rattle.name_counters.specs.Messages.{line_start};
 
 use games::Game;
 use libc::STDOUT_FILENO;
@@ -68,7 +68,7 @@ fn put_row(a: usize, b: usize, c: usize, d: usize) {
 
 // The start of a line, counted from 0.
 fn line_start(text: &[u8], line: u32) -> usize
-    ensures { result ≡ lineStart text.now line 0 }
+    ensures { result ≡ line_start text.now line 0 }
 {
     let mut left = line;
     let mut at: usize = 0;

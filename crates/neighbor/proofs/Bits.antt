@@ -18,8 +18,8 @@ use lib.Ieee.Order.{transfer}
 use lib.Ieee.Nearest.{div_mono}
 use lib.Ieee.Positive.{num, den, den_pos}
 use Rattle.rules.specs.declared.Distance.TheVariants.{Fit, Unfit}
-use Rattle.rules.specs.Distance.{total_of, zero32, fit, answer, distance_of, carried, lanes_of, nodesApart, between}
-use Rattle.rules.specs.Rows.{emptyDistance}
+use Rattle.rules.specs.Distance.{total_of, zero32, fit, answer, distance_of, carried, lanes_of, nodes_apart, between}
+use Rattle.rules.specs.Rows.{empty_distance}
 use Rattle.rules.proofs.Distances.{total-fits}
 use Rattle.neighbor.specs.Holdable.{Holdable}
 
@@ -29,14 +29,14 @@ abbrev pattern : ℕ → ℕ → ℕ
 pattern p n = (size n - p) * 2 ^ (p - 1) + n / 2 ^ (size n - p)
 
 -- where digits are dropped the leading one is kept
-kept-ge : (p n : ℕ) → 0 < p → 0 < size n - p → 2 ^ (p - 1) ≤ n / 2 ^ (size n - p)
-kept-ge p n P K =
+kept_ge : (p n : ℕ) → 0 < p → 0 < size n - p → 2 ^ (p - 1) ≤ n / 2 ^ (size n - p)
+kept_ge p n P K =
     let k = size n - p in
     let l : p - 1 + k < size n = omega arith in
     (le-div_iff_mul-le (pow_pos k)).1 (le_trans (le_of_eq (sym (pow-add 2 (p - 1) k))) (size_reaches n (p - 1 + k) l))
 
-pattern-mono : (p a b : ℕ) → 0 < p → a ≤ b → pattern p a ≤ pattern p b
-pattern-mono p a b P h =
+pattern_mono : (p a b : ℕ) → 0 < p → a ≤ b → pattern p a ≤ pattern p b
+pattern_mono p a b P h =
     let j = size a - p in
     let k = size b - p in
     let s : size a ≤ size b = size-le a (size b) (lt_of_le_of_lt h (size-lt b)) in
@@ -47,7 +47,7 @@ pattern-mono p a b P h =
           subst (λ (z : ℕ). j * 2 ^ (p - 1) + a / 2 ^ j ≤ z * 2 ^ (p - 1) + b / 2 ^ z) e (omega arith)
       | inr g ↦
           let x : a / 2 ^ j < 2 ^ p = kept-lt p a in
-          let y : 2 ^ (p - 1) ≤ b / 2 ^ k = kept-ge p b P (omega arith) in
+          let y : 2 ^ (p - 1) ≤ b / 2 ^ k = kept_ge p b P (omega arith) in
           let q : p ≡ p - 1 + 1 = omega arith in
           let z : 2 ^ p ≡ 2 ^ (p - 1) * 2 = ap (λ (r : ℕ). 2 ^ r) q ∙ pow-add 2 (p - 1) 1 in
           let w : suc j * 2 ^ (p - 1) ≤ k * 2 ^ (p - 1) = mul-le-mul_right (2 ^ (p - 1)) g in
@@ -66,9 +66,9 @@ plus (fin false m e) = true
 abbrev grain : Format → Float → ℕ
 grain f x = num x * 2 ^ low f / den x
 
-shift-exact : (l m : ℕ) (e : ℤ) → down e ≤ 2 ^ l → m * up e * 2 ^ l / down e * down e ≡ m * up e * 2 ^ l
-shift-exact l m (pos a) h = mul-one _ ∙ div-one _
-shift-exact l m (negsuc a) h =
+shift_exact : (l m : ℕ) (e : ℤ) → down e ≤ 2 ^ l → m * up e * 2 ^ l / down e * down e ≡ m * up e * 2 ^ l
+shift_exact l m (pos a) h = mul-one _ ∙ div-one _
+shift_exact l m (negsuc a) h =
     let g : suc a ≤ l = pow_le_back (suc a) l h in
     let e : m * 1 * 2 ^ l ≡ m * 1 * 2 ^ (l - suc a) * 2 ^ suc a =
     ap (λ (z : ℕ). m * 1 * z) (ap (λ (z : ℕ). 2 ^ z) (sym (back l (suc a) g)) ∙ pow-add 2 (l - suc a) (suc a)) ∙ sym (mul_assoc (m * 1) (2 ^ (l - suc a)) (2 ^ suc a)) in
@@ -92,7 +92,7 @@ exact f (fin false (suc m) e) h p =
     let B = ltb (suc m) (2 ^ prec f) in
     let C = leb (down e) (2 ^ low f) in
     let D = ltb (suc m * up e) (2 ^ suc (emax f) * down e) in
-    sym (shift-exact (low f) (suc m) e (leb→le (down e) (2 ^ low f) (and_r (A && B) C (and_l (A && B && C) D h))))
+    sym (shift_exact (low f) (suc m) e (leb→le (down e) (2 ^ low f) (and_r (A && B) C (and_l (A && B && C) D h))))
 
 bits_are : (f : Format) (x : Float) → T (plus x) → to_bits f x ≡ pattern (prec f) (grain f x)
 unfolding to_bits
@@ -127,8 +127,8 @@ eq_is (fin false m e) (fin false n d) p q = and-true (eqb (m * up e * down d) (n
     and-true true = refl
     and-true false = refl
 
-lt-or-ge : (a b : ℕ) → (a < b) ⊎ (b ≤ a)
-lt-or-ge a b = go (ltb a b) (ltb→lt a b) (nltb→le a b)
+lt-or_ge : (a b : ℕ) → (a < b) ⊎ (b ≤ a)
+lt-or_ge a b = go (ltb a b) (ltb→lt a b) (nltb→le a b)
   where
     go : (t : Bool) → (T t → a < b) → (T (not t) → b ≤ a) → (a < b) ⊎ (b ≤ a)
     go true h k = inl (h tt)
@@ -137,26 +137,26 @@ lt-or-ge a b = go (ltb a b) (ltb→lt a b) (nltb→le a b)
 -- ---- a distance that a list can hold
 
 -- it is no NaN, not infinite and not negative
-pub holdable-plus : (x : Float) → Holdable x → T (plus x)
+pub holdable_plus : (x : Float) → Holdable x → T (plus x)
 unfolding to_bits
-holdable-plus nan h = absurd (omega arith)
-holdable-plus (inf true) h = absurd (omega arith)
-holdable-plus (inf false) h = absurd (omega arith)
-holdable-plus (fin true m e) h = absurd (omega arith)
-holdable-plus (fin false m e) h = tt
+holdable_plus nan h = absurd (omega arith)
+holdable_plus (inf true) h = absurd (omega arith)
+holdable_plus (inf false) h = absurd (omega arith)
+holdable_plus (fin true m e) h = absurd (omega arith)
+holdable_plus (fin false m e) h = tt
 
 -- a fit distance, and the mark of an empty slot
-pub holdable-fit : (x : Float) → T (fits binary32 x) → fit x ≡ true → Holdable x
+pub holdable_fit : (x : Float) → T (fits binary32 x) → fit x ≡ true → Holdable x
 unfolding fit
-holdable-fit x f h = let l = leb-true (to_bits binary32 x) 0x7F7FFFFE h in record { held = f; low = omega arith }
+holdable_fit x f h = let l = leb-true (to_bits binary32 x) 0x7F7FFFFE h in record { held = f; low = omega arith }
 
-pub holdable-empty : Holdable emptyDistance
+pub holdable_empty : Holdable empty_distance
 unfolding of_bits to_bits
-holdable-empty = record { held = of_bits-fits binary32 0x7F7FFFFF; low = omega arith }
+holdable_empty = record { held = of_bits-fits binary32 0x7F7FFFFF; low = omega arith }
 
-pub holdable-zero : Holdable zero32
+pub holdable_zero : Holdable zero32
 unfolding of_bits to_bits
-holdable-zero = record { held = of_bits-fits binary32 0; low = omega arith }
+holdable_zero = record { held = of_bits-fits binary32 0; low = omega arith }
 
 -- equal bits are one value: there is one NaN
 pub bits-same : (x y : Float) → T (fits binary32 x) → T (fits binary32 y) → to_bits binary32 x ≡ to_bits binary32 y → x ≡ y
@@ -166,27 +166,27 @@ module _ (x y : Float) (hx : Holdable x) (hy : Holdable y) where
   bits_mono : num x * den y ≤ num y * den x → to_bits binary32 x ≤ to_bits binary32 y
   bits_mono h =
       let f = binary32 in
-      let px = holdable-plus x hx in
-      let py = holdable-plus y hy in
+      let px = holdable_plus x hx in
+      let py = holdable_plus y hy in
       let g : grain f x * 2 ^ low f ≤ grain f y * 2 ^ low f = transfer (grain f x) (grain f y) (2 ^ low f) (2 ^ low f) (num x) (num y) (den x) (den y) (den_pos x) (den_pos y) (sym (exact f x hx.held px)) (sym (exact f y hy.held py)) h in
-      rw (bits_are f x px, bits_are f y py) (pattern-mono (prec f) (grain f x) (grain f y) (two-le_pos (prec f) (two f)) (le_of_mul-le-mul_right g (pow_pos (low f))))
+      rw (bits_are f x px, bits_are f y py) (pattern_mono (prec f) (grain f x) (grain f y) (two-le_pos (prec f) (two f)) (le_of_mul-le-mul_right g (pow_pos (low f))))
 
-  bits-less : num x * den y < num y * den x → to_bits binary32 x < to_bits binary32 y
-  bits-less h = elim (eq-or-lt_of_le (bits_mono (le_of_lt h))) [
+  bits_less : num x * den y < num y * den x → to_bits binary32 x < to_bits binary32 y
+  bits_less h = elim (eq-or-lt_of_le (bits_mono (le_of_lt h))) [
     | inl e ↦ absurd (lt_irrefl (num y * den y) (subst (λ (z : Float). num z * den y < num y * den z) (bits-same x y hx.held hy.held e) h))
     | inr l ↦ l
   ]
 
 -- "by distance" is by bits
 pub bits-lt : (x y : Float) → Holdable x → Holdable y → lt x y ≡ ltb (to_bits binary32 x) (to_bits binary32 y)
-bits-lt x y hx hy = lt-is x y (holdable-plus x hx) (holdable-plus y hy) ∙ go (lt-or-ge (num x * den y) (num y * den x))
+bits-lt x y hx hy = lt-is x y (holdable_plus x hx) (holdable_plus y hy) ∙ go (lt-or_ge (num x * den y) (num y * den x))
   where
     go : (num x * den y < num y * den x) ⊎ (num y * den x ≤ num x * den y) → ltb (num x * den y) (num y * den x) ≡ ltb (to_bits binary32 x) (to_bits binary32 y)
-    go (inl h) = rw (lt-ltb _ _ h, lt-ltb _ _ (bits-less x y hx hy h))
+    go (inl h) = rw (lt-ltb _ _ h, lt-ltb _ _ (bits_less x y hx hy h))
     go (inr h) = rw (le-ltb _ _ h, le-ltb _ _ (bits_mono y x hy hx h))
 
 pub bits-eq : (x y : Float) → Holdable x → Holdable y → eq x y ≡ eqb (to_bits binary32 x) (to_bits binary32 y)
-bits-eq x y hx hy = eq_is x y (holdable-plus x hx) (holdable-plus y hy) ∙ go (lt-or-ge a b) (lt-or-ge b a)
+bits-eq x y hx hy = eq_is x y (holdable_plus x hx) (holdable_plus y hy) ∙ go (lt-or_ge a b) (lt-or_ge b a)
   where
     a : ℕ
     a = num x * den y
@@ -202,10 +202,10 @@ bits-eq x y hx hy = eq_is x y (holdable-plus x hx) (holdable-plus y hy) ∙ go (
 
     go : (a < b) ⊎ (b ≤ a) → (b < a) ⊎ (a ≤ b) → eqb a b ≡ eqb u v
     go (inl h) k =
-        let l : u < v = bits-less x y hx hy h in
+        let l : u < v = bits_less x y hx hy h in
         rw (ne_eqb a b (λ (q : a ≡ b). omega arith), ne_eqb u v (λ (q : u ≡ v). omega arith))
     go (inr h) (inl k) =
-        let l : v < u = bits-less y x hy hx k in
+        let l : v < u = bits_less y x hy hx k in
         rw (ne_eqb a b (λ (q : a ≡ b). omega arith), ne_eqb u v (λ (q : u ≡ v). omega arith))
     go (inr h) (inr k) =
         let l : u ≤ v = bits_mono x y hx hy k in
@@ -215,27 +215,27 @@ bits-eq x y hx hy = eq_is x y (holdable-plus x hx) (holdable-plus y hy) ∙ go (
 -- ---- the distances of 01
 
 -- a distance that an answer carries can be held, and so can what stands for one that is unfit
-pub holdable-carried : (a b : List Float) → Holdable (carried (distance_of a b))
+pub holdable_carried : (a b : List Float) → Holdable (carried (distance_of a b))
 unfolding carried distance_of answer
-holdable-carried a b = go (fit t) refl
+holdable_carried a b = go (fit t) refl
   where
     t : Float
     t = total_of zero32 a b
 
     go : (c : Bool) → fit t ≡ c → Holdable (carried (cond c (Fit t) Unfit))
-    go true e = holdable-fit t (total-fits zero32 a b (of_bits-fits binary32 0)) e
-    go false e = holdable-zero
+    go true e = holdable_fit t (total-fits zero32 a b (of_bits-fits binary32 0)) e
+    go false e = holdable_zero
 
-pub holdable-distance : (a b : List Float) (x : Float) → distance_of a b ≡ Fit x → Holdable x
+pub holdable_distance : (a b : List Float) (x : Float) → distance_of a b ≡ Fit x → Holdable x
 unfolding carried
-holdable-distance a b x e = subst Holdable (ap carried e) (holdable-carried a b)
+holdable_distance a b x e = subst Holdable (ap carried e) (holdable_carried a b)
 
 -- build, descent and relay: of any two nodes
-pub holdable-between : (lanes : List Float) (dimension i j : ℕ) → Holdable (between lanes dimension i j)
-unfolding between nodesApart
-holdable-between lanes dimension i j = holdable-carried (lanes_of lanes dimension i) (lanes_of lanes dimension j)
+pub holdable_between : (lanes : List Float) (dimension i j : ℕ) → Holdable (between lanes dimension i j)
+unfolding between nodes_apart
+holdable_between lanes dimension i j = holdable_carried (lanes_of lanes dimension i) (lanes_of lanes dimension j)
 
 -- nothing that can be held is farther than an empty slot
-pub within-empty : (x : Float) → Holdable x → lt emptyDistance x ≡ false
+pub within_empty : (x : Float) → Holdable x → lt empty_distance x ≡ false
 unfolding of_bits to_bits
-within-empty x h = let low = h.low in bits-lt emptyDistance x holdable-empty h ∙ le-ltb (to_bits binary32 emptyDistance) (to_bits binary32 x) (omega arith)
+within_empty x h = let low = h.low in bits-lt empty_distance x holdable_empty h ∙ le-ltb (to_bits binary32 empty_distance) (to_bits binary32 x) (omega arith)

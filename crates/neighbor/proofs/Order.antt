@@ -20,9 +20,9 @@ key M a = to_bits binary32 a.distance * M + node_of a
 apart : (M r s : ℕ) → r < s → r * M + M ≤ s * M
 apart M r s h = let w : suc r * M ≤ s * M = mul-le-mul_right M h in let v = suc-mul r M in omega arith
 
-before-key : (M : ℕ) (a b : Neighbor) → Holdable a.distance → Holdable b.distance → node_of a < M → node_of b < M → before a b ≡ ltb (key M a) (key M b)
+before_key : (M : ℕ) (a b : Neighbor) → Holdable a.distance → Holdable b.distance → node_of a < M → node_of b < M → before a b ≡ ltb (key M a) (key M b)
 unfolding before
-before-key M a b A B I J =
+before_key M a b A B I J =
     let r = to_bits binary32 a.distance in
     let s = to_bits binary32 b.distance in
     simp (bits-lt a.distance b.distance A B, bits-eq a.distance b.distance A B) (go r s (node_of a) (node_of b) I J (ltb r s) (eqb r s) refl refl)
@@ -43,26 +43,26 @@ before-key M a b A B I J =
 pub irreflexive : (a : Neighbor) → Holdable a.distance → before a a ≡ false
 irreflexive a A =
     let M = suc (node_of a) in
-    before-key M a a A A (omega arith) (omega arith) ∙ le-ltb (key M a) (key M a) (omega arith)
+    before_key M a a A A (omega arith) (omega arith) ∙ le-ltb (key M a) (key M a) (omega arith)
 
 pub transitive : (a b c : Neighbor) → Holdable a.distance → Holdable b.distance → Holdable c.distance
     → before a b ≡ true → before b c ≡ true → before a c ≡ true
 transitive a b c A B C p q =
     let M = suc (node_of a + node_of b + node_of c) in
-    let x = ltb-true (key M a) (key M b) (sym (before-key M a b A B (omega arith) (omega arith)) ∙ p) in
-    let y = ltb-true (key M b) (key M c) (sym (before-key M b c B C (omega arith) (omega arith)) ∙ q) in
-    before-key M a c A C (omega arith) (omega arith) ∙ lt-ltb (key M a) (key M c) (omega arith)
+    let x = ltb-true (key M a) (key M b) (sym (before_key M a b A B (omega arith) (omega arith)) ∙ p) in
+    let y = ltb-true (key M b) (key M c) (sym (before_key M b c B C (omega arith) (omega arith)) ∙ q) in
+    before_key M a c A C (omega arith) (omega arith) ∙ lt-ltb (key M a) (key M c) (omega arith)
 
 -- at most one of two precedes the other
 pub asymmetric : (a b : Neighbor) → Holdable a.distance → Holdable b.distance → before a b ≡ true → before b a ≡ false
 asymmetric a b A B p =
     let M = suc (node_of a + node_of b) in
-    let x = ltb-true (key M a) (key M b) (sym (before-key M a b A B (omega arith) (omega arith)) ∙ p) in
-    before-key M b a B A (omega arith) (omega arith) ∙ le-ltb (key M b) (key M a) (omega arith)
+    let x = ltb-true (key M a) (key M b) (sym (before_key M a b A B (omega arith) (omega arith)) ∙ p) in
+    before_key M b a B A (omega arith) (omega arith) ∙ le-ltb (key M b) (key M a) (omega arith)
 
 -- numbers whose keys are equal are equal
-same-high : (M r s i j : ℕ) → i < M → j < M → r * M + i ≡ s * M + j → r ≡ s
-same-high M r s i j I J h = go (ltb r s) (ltb s r) refl refl
+same_high : (M r s i j : ℕ) → i < M → j < M → r * M + i ≡ s * M + j → r ≡ s
+same_high M r s i j I J h = go (ltb r s) (ltb s r) refl refl
   where
     go : (x y : Bool) → ltb r s ≡ x → ltb s r ≡ y → r ≡ s
     go true y e g = let w = apart M r s (ltb-true r s e) in absurd (omega arith)
@@ -75,9 +75,9 @@ total a b A B p q =
     let M = suc (node_of a + node_of b) in
     let r = to_bits binary32 a.distance in
     let s = to_bits binary32 b.distance in
-    let x = ltb-false (key M a) (key M b) (sym (before-key M a b A B (omega arith) (omega arith)) ∙ p) in
-    let y = ltb-false (key M b) (key M a) (sym (before-key M b a B A (omega arith) (omega arith)) ∙ q) in
-    let e : r ≡ s = same-high M r s (node_of a) (node_of b) (omega arith) (omega arith) (omega arith) in
+    let x = ltb-false (key M a) (key M b) (sym (before_key M a b A B (omega arith) (omega arith)) ∙ p) in
+    let y = ltb-false (key M b) (key M a) (sym (before_key M b a B A (omega arith) (omega arith)) ∙ q) in
+    let e : r ≡ s = same_high M r s (node_of a) (node_of b) (omega arith) (omega arith) (omega arith) in
     let d : a.distance ≡ b.distance = bits-same a.distance b.distance A.held B.held e in
     let w : r * M ≡ s * M = ap (λ (z : ℕ). z * M) e in
     let n : node_of a ≡ node_of b = omega arith in

@@ -13,6 +13,6 @@ Sound n es = All (λ (e : Neighbor). is_empty e ≡ false → node_of e < n) es
 pub record Row (w : ℕ) (ns : List ℕ) (ds : List Float) (ps : List ℕ) (qs : List Float) : Type 0 where
   pub nodes : length ns ≡ w
   pub dists : length ds ≡ w
-  pub pool-nodes : w < length ps
-  pub pool-dists : w < length qs
+  pub pool_nodes : w < length ps
+  pub pool_dists : w < length qs
   pub wide : w ≤ 64

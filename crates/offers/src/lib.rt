@@ -2,7 +2,7 @@
 ghost use Rattle.std.specs.Prelude.{◌≡◌, [], ◌∷◌, ◌++◌, ◌+◌, ◌*◌, ◌<◌, length};
 ghost use Rattle.rules.specs.Lists.{entries, sort};
 ghost use Rattle.rules.specs.Distance.{between};
-ghost use Rattle.rules.specs.Build.{atFull, offered};
+ghost use Rattle.rules.specs.Build.{at_full, offered};
 ghost use Rattle.prune.specs.Chosen.{AllBelow};
 ghost use Rattle.offers.specs.Sound.{Sound, Row};
 
@@ -43,7 +43,7 @@ fn offer_full(
 )
     requires lanes_len { (length lanes.now ≡ n * dimension) × (offer.node.0 < n) × AllBelow n (entries w nodes.old dists.old) }
     requires row { Row w nodes.old dists.old pool_nodes.old pool_dists.old }
-    ensures { entries w nodes.new dists.new ≡ atFull (between lanes.now dimension) threshold w offer (entries w nodes.old dists.old) }
+    ensures { entries w nodes.new dists.new ≡ at_full (between lanes.now dimension) threshold w offer (entries w nodes.old dists.old) }
 {
     gather(w, nodes, dists, pool_nodes, pool_dists, offer);
     let len = w + 1;

@@ -5,25 +5,25 @@ use mathlib.Core.List.{List, [], ◌∷◌}
 use Prim.Native.Nat.{ℕ, ◌≤◌}
 use native.Mathlib.Omega.{arith}
 use Rattle.rules.specs.Loops.{through}
-use Rattle.rules.specs.Refusals.{Code, noRefusal, Row, Decision, passed, refused, decide, row1, row2, row3, row4, row6, row9, row10ofJobs, row12}
+use Rattle.rules.specs.Refusals.{Code, no_refusal, Row, Decision, passed, refused, decide, row1, row2, row3, row4, row6, row9, row10_of_jobs, row12}
 use Rattle.rules.specs.Calls.{open_rows}
 use Rattle.rules.specs.Relay.{Relay, moved}
-use Rattle.rules.specs.RelayPlaces.{relayState, relayStateFloats}
-use Rattle.rules.specs.RelayCall.{OpenLent, openTable, openedOn, openObeys, openRule, MoveOutcome}
+use Rattle.rules.specs.RelayPlaces.{relay_state, relay_state_floats}
+use Rattle.rules.specs.RelayCall.{OpenLent, open_table, opened_on, open_obeys, open_rule, MoveOutcome}
 use Rattle.lists.specs.All.{All}
 use Rattle.encoded.specs.Words.{Binary32}
 use Rattle.relay_kept.specs.Formed.{Formed}
 use Rattle.relay_kept.specs.Calls.{Sizes}
-use Rattle.relay_kept.proofs.Calls.{move-leaves, move-refused}
-use Rattle.relay_kept.proofs.Opening.{open-formed, passed-open}
-use Rattle.orders.specs.Runs.{idle, movedIf, ran}
-use Rattle.orders.specs.Demand3.{State, atOpening, move_of, afterMove, after}
-use Rattle.orders.proofs.Runs.{idle-false, if-formed}
+use Rattle.relay_kept.proofs.Calls.{move_leaves, move_refused}
+use Rattle.relay_kept.proofs.Opening.{open_formed, passed_open}
+use Rattle.orders.specs.Runs.{idle, moved_if, ran}
+use Rattle.orders.specs.Demand3.{State, at_opening, move_of, after_move, after}
+use Rattle.orders.proofs.Runs.{idle-false, if_formed}
 
 -- ---- open answers exactly when its rows pass
 
 pub record Opens (l : OpenLent) : Type 0 where
-  pub answers : (openRule l).said ≡ noRefusal
+  pub answers : (open_rule l).said ≡ no_refusal
   pub floats : Binary32 l.distances
 
 numbered : (rs : List Row) (c : Code) → All (λ (r : Row). 1 ≤ r.gives.number) rs → decide rs ≡ refused c → 1 ≤ c.number
@@ -36,50 +36,50 @@ numbered (r ∷ rs) c N h = go r.test h (numbered rs c N.1)
     go false h ih = ih h
 
 module _ (l : OpenLent) (O : Opens l) where
-  pub opens-passed : decide (openTable l) ≡ passed
-  unfolding openRule openObeys openTable open_rows row1 row2 row3 row4 row6 row9 row10ofJobs row12
-  opens-passed = go (decide (openTable l)) refl O.answers
+  pub opens-passed : decide (open_table l) ≡ passed
+  unfolding open_rule open_obeys open_table open_rows row1 row2 row3 row4 row6 row9 row10_of_jobs row12
+  opens-passed = go (decide (open_table l)) refl O.answers
     where
-      go : (d : Decision) → decide (openTable l) ≡ d → (openObeys l d).said ≡ noRefusal → d ≡ passed
+      go : (d : Decision) → decide (open_table l) ≡ d → (open_obeys l d).said ≡ no_refusal → d ≡ passed
       go passed e h = refl
       go (refused c) e h =
-          let m = numbered (openTable l) c (omega arith, (omega arith, (omega arith, (omega arith, (omega arith, (omega arith, (omega arith, (omega arith, tt)))))))) e in
+          let m = numbered (open_table l) c (omega arith, (omega arith, (omega arith, (omega arith, (omega arith, (omega arith, (omega arith, (omega arith, tt)))))))) e in
           let z : c.number ≡ 0 = ap (λ (x : Code). x.number) h in
           absurd (omega arith)
 
   pub sizes : Sizes l.n l.k
-  sizes = (passed-open l O.floats opens-passed).sizes
+  sizes = (passed_open l O.floats opens-passed).sizes
 
-  pub opening-formed : Formed l.n l.k (openedOn l)
-  opening-formed = open-formed l O.floats opens-passed
+  pub opening-formed : Formed l.n l.k (opened_on l)
+  opening-formed = open_formed l O.floats opens-passed
 
   -- ---- the state of a relay
 
   abbrev pub state_of : Relay → State
-  state_of r = record { words = relayState l.k r; floats = relayStateFloats l.k r }
+  state_of r = record { words = relay_state l.k r; floats = relay_state_floats l.k r }
 
-  at-opening : atOpening l ≡ state_of (openedOn l)
-  unfolding openRule openObeys
+  at-opening : at_opening l ≡ state_of (opened_on l)
+  unfolding open_rule open_obeys
   at-opening = rw opens-passed
 
   -- one move
-  after-move : (r : Relay) (i : ℕ) → Formed l.n l.k r → afterMove l i (state_of r) ≡ state_of (movedIf l.k r i)
-  unfolding afterMove movedIf
-  after-move r i F = go (idle r i) refl
+  after_move_lem : (r : Relay) (i : ℕ) → Formed l.n l.k r → after_move l i (state_of r) ≡ state_of (moved_if l.k r i)
+  unfolding after_move moved_if
+  after_move_lem r i F = go (idle r i) refl
     where
       state : MoveOutcome → State
-      state o = record { words = o.state-u; floats = o.state-f }
+      state o = record { words = o.state_u; floats = o.state_f }
 
       go : (b : Bool) → idle r i ≡ b → state (move_of l i (state_of r)) ≡ state_of (cond b r (moved l.k r i))
-      go true e = ap state (move-refused sizes r F i e)
-      go false e = let x = idle-false r i e in ap state (move-leaves sizes r F i x.0 x.1)
+      go true e = ap state (move_refused sizes r F i e)
+      go false e = let x = idle-false r i e in ap state (move_leaves sizes r F i x.0 x.1)
 
-  after-all : (order : List ℕ) (r : Relay) → Formed l.n l.k r → through (afterMove l) order (state_of r) ≡ state_of (ran l.k order r)
+  after-all : (order : List ℕ) (r : Relay) → Formed l.n l.k r → through (after_move l) order (state_of r) ≡ state_of (ran l.k order r)
   unfolding through ran
   after-all [] r F = refl
   after-all (i ∷ order) r F =
-      ap (through (afterMove l) order) (after-move r i F) ∙ after-all order (movedIf l.k r i) (if-formed r i F)
+      ap (through (after_move l) order) (after_move_lem r i F) ∙ after-all order (moved_if l.k r i) (if_formed r i F)
 
-  pub after_is : (order : List ℕ) → after l order ≡ state_of (ran l.k order (openedOn l))
+  pub after_is : (order : List ℕ) → after l order ≡ state_of (ran l.k order (opened_on l))
   unfolding after
-  after_is order = ap (through (afterMove l) order) at-opening ∙ after-all order (openedOn l) opening-formed
+  after_is order = ap (through (after_move l) order) at-opening ∙ after-all order (opened_on l) opening-formed

@@ -10,13 +10,13 @@ use lib.ListN.{length, replicate}
 use borrow.Author.Tests.{eqb-true, eqb-false, eq-eqb, ltb-true, ltb-false}
 use Rattle.rules.specs.Loops.{each}
 use Rattle.rules.specs.Distance.{between}
-use Rattle.rules.specs.Relay.{steps_of, Job, Relay, isFinished, noJob, jobAt, job_of, opened, moved}
-use Rattle.rules.specs.RelayCall.{OpenLent, openedOn}
-use Rattle.rules.proofs.Loops.{length-ones, getD-ones}
-use Rattle.relay_kept.specs.Halves.{halfAt, jobAfter}
-use Rattle.orders.specs.Runs.{ran, count, stepsDone}
+use Rattle.rules.specs.Relay.{steps_of, Job, Relay, is_finished, no_job, job_at, job_of, opened, moved}
+use Rattle.rules.specs.RelayCall.{OpenLent, opened_on}
+use Rattle.rules.proofs.Loops.{length-ones, get_d_ones}
+use Rattle.relay_kept.specs.Halves.{half_at, job_after}
+use Rattle.orders.specs.Runs.{ran, count, steps_done}
 use Rattle.orders.specs.Demand3.{pairs, Finishes, in_turn}
-use Rattle.orders.proofs.Runs.{finished-steps, steps-finished, ran-keeps, ran-length, ran-steps, moved_same, moved_other}
+use Rattle.orders.proofs.Runs.{finished_steps, steps_finished, ran_keeps, ran-length, ran_steps, moved_same, moved_other}
 
 -- ---- an order that finishes
 
@@ -25,9 +25,9 @@ unfolding count
 count-append i [] ys = omega arith
 count-append i (x ∷ xs) ys = let e = count-append i xs ys in omega arith
 
-count-eight : (i : ℕ) → count i (replicate 8 i) ≡ 8
+count_eight : (i : ℕ) → count i (replicate 8 i) ≡ 8
 unfolding count
-count-eight i = rw (eq-eqb i i refl)
+count_eight i = rw (eq-eqb i i refl)
 
 count-turns : (m i : ℕ) → i < m → 8 ≤ count i (each (λ (x : ℕ). replicate 8 x) m)
 unfolding each
@@ -42,50 +42,50 @@ count-turns (suc m) i h = go (ltb i m) refl (count-turns m i)
     go false t ih =
         let a = ltb-false i m t in
         let q : i ≡ m = omega arith in
-        let c : count i (replicate 8 m) ≡ 8 = subst (λ (x : ℕ). count i (replicate 8 x) ≡ 8) q (count-eight i) in
+        let c : count i (replicate 8 m) ≡ 8 = subst (λ (x : ℕ). count i (replicate 8 x) ≡ 8) q (count_eight i) in
         let b = e in
         omega arith
 
-pub in-turn : (l : OpenLent) → Finishes l (in_turn l)
-in-turn l i h = let a = count-turns (pairs l) i h in omega arith
+pub in_turn_lem : (l : OpenLent) → Finishes l (in_turn l)
+in_turn_lem l i h = let a = count-turns (pairs l) i h in omega arith
 
 -- ---- the jobs of an opening
 
 module _ (l : OpenLent) where
-  pub opened-length : length (openedOn l).jobs ≡ pairs l
-  unfolding openedOn opened
+  pub opened-length : length (opened_on l).jobs ≡ pairs l
+  unfolding opened_on opened
   opened-length = length-ones (job_of (between l.lanes l.dimension) l.jobs) (pairs l)
 
-  pub opened-job : (i : ℕ) → i < pairs l → jobAt (openedOn l) i ≡ job_of (between l.lanes l.dimension) l.jobs i
-  unfolding openedOn opened
-  opened-job i h = getD-ones (job_of (between l.lanes l.dimension) l.jobs) (pairs l) i noJob h
+  pub opened-job : (i : ℕ) → i < pairs l → job_at (opened_on l) i ≡ job_of (between l.lanes l.dimension) l.jobs i
+  unfolding opened_on opened
+  opened-job i h = get_d_ones (job_of (between l.lanes l.dimension) l.jobs) (pairs l) i no_job h
 
-  opened-steps : (i : ℕ) → i < pairs l → stepsDone (jobAt (openedOn l) i) ≡ 0
+  opened_steps : (i : ℕ) → i < pairs l → steps_done (job_at (opened_on l) i) ≡ 0
   unfolding job_of steps_of
-  opened-steps i h = ap stepsDone (opened-job i h)
+  opened_steps i h = ap steps_done (opened-job i h)
 
   module _ (order : List ℕ) where
     abbrev R : Relay
-    R = ran l.k order (openedOn l)
+    R = ran l.k order (opened_on l)
 
-    pub run_length : length (ran l.k order (openedOn l)).jobs ≡ pairs l
-    run_length = ran-length l.k (openedOn l) order ∙ opened-length
+    pub run_length : length (ran l.k order (opened_on l)).jobs ≡ pairs l
+    run_length = ran-length l.k (opened_on l) order ∙ opened-length
 
-    pub run-steps : (i : ℕ) → i < pairs l → stepsDone (jobAt (ran l.k order (openedOn l)) i) ≡ min 8 (count i order)
-    run-steps i h =
+    pub run_steps : (i : ℕ) → i < pairs l → steps_done (job_at (ran l.k order (opened_on l)) i) ≡ min 8 (count i order)
+    run_steps i h =
         let e = opened-length in
-        let a = opened-steps i h in
-        let b = ran-steps l.k (openedOn l) order i (omega arith) in
+        let a = opened_steps i h in
+        let b = ran_steps l.k (opened_on l) order i (omega arith) in
         omega arith
 
-    pub is-finished : (i : ℕ) → i < pairs l → 8 ≤ count i order → isFinished (jobAt (ran l.k order (openedOn l)) i) ≡ true
-    is-finished i h c = let s = run-steps i h in steps-finished (jobAt R i) (omega arith)
+    pub is-finished : (i : ℕ) → i < pairs l → 8 ≤ count i order → is_finished (job_at (ran l.k order (opened_on l)) i) ≡ true
+    is-finished i h c = let s = run_steps i h in steps_finished (job_at R i) (omega arith)
 
-    pub is-unfinished : (i : ℕ) → i < pairs l → count i order < 8 → isFinished (jobAt (ran l.k order (openedOn l)) i) ≡ false
-    is-unfinished i h c = go (isFinished (jobAt R i)) refl
+    pub is_unfinished : (i : ℕ) → i < pairs l → count i order < 8 → is_finished (job_at (ran l.k order (opened_on l)) i) ≡ false
+    is_unfinished i h c = go (is_finished (job_at R i)) refl
       where
-        go : (b : Bool) → isFinished (jobAt R i) ≡ b → b ≡ false
-        go true e = let s = run-steps i h in let t = finished-steps (jobAt R i) e in absurd (omega arith)
+        go : (b : Bool) → is_finished (job_at R i) ≡ b → b ≡ false
+        go true e = let s = run_steps i h in let t = finished_steps (job_at R i) e in absurd (omega arith)
         go false e = refl
 
 -- ---- moves change stages and nothing else of a job
@@ -95,18 +95,18 @@ pub record Alike (j₀ j : Job) : Type 0 where
   pub v : j.v ≡ j₀.v
   pub distance : j.distance ≡ j₀.distance
 
-alike-after : (k : ℕ) (r : Relay) (i : ℕ) (a : Bool) (j₀ : Job) → Alike j₀ (jobAt r i) → Alike j₀ (jobAfter k r i a)
+alike-after : (k : ℕ) (r : Relay) (i : ℕ) (a : Bool) (j₀ : Job) → Alike j₀ (job_at r i) → Alike j₀ (job_after k r i a)
 alike-after k r i false j₀ A = record { u = A.u; v = A.v; distance = A.distance }
 alike-after k r i true j₀ A = record { u = A.u; v = A.v; distance = A.distance }
 
-pub run-alike : (k : ℕ) (r : Relay) (order : List ℕ) (x : ℕ) → Alike (jobAt r x) (jobAt (ran k order r) x)
-run-alike k r₀ order x =
-    ran-keeps k (λ (r : Relay). Alike (jobAt r₀ x) (jobAt r x)) (λ (r : Relay) (i : ℕ) (h : i < length r.jobs) (f : isFinished (jobAt r i) ≡ false) (A : Alike (jobAt r₀ x) (jobAt r x)). at r i h A (eqb i x) refl) r₀ order
+pub run_alike : (k : ℕ) (r : Relay) (order : List ℕ) (x : ℕ) → Alike (job_at r x) (job_at (ran k order r) x)
+run_alike k r₀ order x =
+    ran_keeps k (λ (r : Relay). Alike (job_at r₀ x) (job_at r x)) (λ (r : Relay) (i : ℕ) (h : i < length r.jobs) (f : is_finished (job_at r i) ≡ false) (A : Alike (job_at r₀ x) (job_at r x)). at r i h A (eqb i x) refl) r₀ order
     (record { u = refl; v = refl; distance = refl })
   where
-    at : (r : Relay) (i : ℕ) → i < length r.jobs → Alike (jobAt r₀ x) (jobAt r x) → (b : Bool) → eqb i x ≡ b → Alike (jobAt r₀ x) (jobAt (moved k r i) x)
-    at r i h A false q = subst (Alike (jobAt r₀ x)) (sym (moved_other k r i x (eqb-false i x q))) A
+    at : (r : Relay) (i : ℕ) → i < length r.jobs → Alike (job_at r₀ x) (job_at r x) → (b : Bool) → eqb i x ≡ b → Alike (job_at r₀ x) (job_at (moved k r i) x)
+    at r i h A false q = subst (Alike (job_at r₀ x)) (sym (moved_other k r i x (eqb-false i x q))) A
     at r i h A true q =
         let e = eqb-true i x q in
-        subst (λ (y : ℕ). Alike (jobAt r₀ x) (jobAt (moved k r i) y)) e
-        (subst (Alike (jobAt r₀ x)) (sym (moved_same k r i h)) (alike-after k r i (halfAt r i) (jobAt r₀ x) (subst (λ (y : ℕ). Alike (jobAt r₀ x) (jobAt r y)) (sym e) A)))
+        subst (λ (y : ℕ). Alike (job_at r₀ x) (job_at (moved k r i) y)) e
+        (subst (Alike (job_at r₀ x)) (sym (moved_same k r i h)) (alike-after k r i (half_at r i) (job_at r₀ x) (subst (λ (y : ℕ). Alike (job_at r₀ x) (job_at r y)) (sym e) A)))

@@ -13,26 +13,26 @@ use borrow.Author.Tests.{not-true, not-false, ltb-true, lt-ltb, eqb-true, eqb-fa
 use Rattle.rules.specs.declared.Neighbor.{Neighbor}
 use Rattle.rules.specs.Loops.{through}
 use Rattle.rules.specs.Distance.{before, zero32}
-use Rattle.rules.specs.Lists.{neighbor, node_of, insert, insertAll}
+use Rattle.rules.specs.Lists.{neighbor, node_of, insert, insert_all}
 use Rattle.rules.specs.Search.{farthest}
 use Rattle.rules.specs.Offers.{look}
-use Rattle.rules.specs.Relay.{Stage, fresh, looked, pushed, measured, popped, isPopped, taken_of, Job, Relay, nextStage, equalNodes, isFinished, jobAt, moved}
+use Rattle.rules.specs.Relay.{Stage, fresh, looked, pushed, measured, popped, is_popped, taken_of, Job, Relay, next_stage, equal_nodes, is_finished, job_at, moved}
 use Rattle.rules.proofs.Tests.{both}
 use Rattle.neighbor.specs.Holdable.{Holdable}
 use Rattle.neighbor.proofs.Bits.{bits-lt, bits-eq}
 use Rattle.neighbor.proofs.Order.{total}
 use Rattle.lists.specs.Ascending.{AllHoldable, Ascending}
 use Rattle.lists.specs.All.{All}
-use Rattle.lists.proofs.Laws.{holdable-insert, length-insert}
+use Rattle.lists.proofs.Laws.{holdable_insert, length-insert}
 use Rattle.lists.proofs.Plain.{all-at, all_take}
 use Rattle.relay_kept.specs.Formed.{Formed}
-use Rattle.relay_kept.specs.Halves.{target, entry_of, stageOf, halfAt, found, jobAfter}
+use Rattle.relay_kept.specs.Halves.{target, entry_of, stage_of, half_at, found, job_after}
 use Rattle.relay_kept.proofs.Kept.{moved-formed, job-formed, target_below, room-before, offer-held}
-use Rattle.orders.specs.Steps.{lookTakes, left}
+use Rattle.orders.specs.Steps.{look_takes, left}
 use Rattle.orders.specs.Runs.{ran}
 use Rattle.orders.proofs.Kept.{moved_keeps}
 use Rattle.orders.proofs.Waiting.{held-left}
-use Rattle.orders.proofs.Runs.{Aims, ran-keeps, moved_length, moved_same, moved_other}
+use Rattle.orders.proofs.Runs.{Aims, ran_keeps, moved_length, moved_same, moved_other}
 
 -- nearer than x
 abbrev pub Near : Float → Neighbor → Type 0
@@ -58,12 +58,12 @@ near_before x a b X A B h n = go (lt a.distance b.distance) (eq a.distance b.dis
         bits-lt a.distance x A X ∙ lt-ltb (to_bits binary32 a.distance) (to_bits binary32 x) (omega arith)
     go false false r e f g = absurd (true≢false (sym g))
 
-near-insert : (k : ℕ) (x : Float) (e : Neighbor) (l : List Neighbor) → Holdable x → Holdable e.distance → AllHoldable l → k ≤ length l
+near_insert : (k : ℕ) (x : Float) (e : Neighbor) (l : List Neighbor) → Holdable x → Holdable e.distance → AllHoldable l → k ≤ length l
     → All (Near x) (take k l) → All (Near x) (take k (insert e l))
 unfolding insert
-near-insert zero x e l X E L h N = tt
-near-insert (suc k) x e [] X E L h N = absurd (not-suc-le-zero h)
-near-insert (suc k) x e (y ∷ l) X E L h N = go (before e y) refl (near-insert k x e l X E L.1 (le_of_suc-le-suc h) N.1)
+near_insert zero x e l X E L h N = tt
+near_insert (suc k) x e [] X E L h N = absurd (not-suc-le-zero h)
+near_insert (suc k) x e (y ∷ l) X E L h N = go (before e y) refl (near_insert k x e l X E L.1 (le_of_suc-le-suc h) N.1)
   where
     shorter : (m : ℕ) (ys : List Neighbor) → All (Near x) (take (suc m) ys) → All (Near x) (take m ys)
     shorter zero ys N = tt
@@ -74,18 +74,18 @@ near-insert (suc k) x e (y ∷ l) X E L h N = go (before e y) refl (near-insert 
     go true q r = (near_before x e y X E L.0 q N.0, shorter k (y ∷ l) N)
     go false q r = (N.0, r)
 
-near-all : (k : ℕ) (x : Float) (es l : List Neighbor) → Holdable x → AllHoldable es → AllHoldable l → k ≤ length l
-    → All (Near x) (take k l) → All (Near x) (take k (insertAll es l))
-unfolding insertAll through
-near-all k x [] l X E L h N = N
-near-all k x (e ∷ es) l X E L h N =
+near_all : (k : ℕ) (x : Float) (es l : List Neighbor) → Holdable x → AllHoldable es → AllHoldable l → k ≤ length l
+    → All (Near x) (take k l) → All (Near x) (take k (insert_all es l))
+unfolding insert_all through
+near_all k x [] l X E L h N = N
+near_all k x (e ∷ es) l X E L h N =
     let i = length-insert e l in
-    near-all k x es (insert e l) X E.1 (holdable-insert e l E.0 L) (omega arith) (near-insert k x e l X E.0 L h N)
+    near_all k x es (insert e l) X E.1 (holdable_insert e l E.0 L) (omega arith) (near_insert k x e l X E.0 L h N)
 
 -- ---- a refused offer is farther than all that its list holds
 
-near-earlier : (d : Float) (x y : Neighbor) → Holdable d → Holdable x.distance → Holdable y.distance → before y x ≡ false → Near d y → Near d x
-near-earlier d x y D X Y h n = go (before x y) refl
+near_earlier : (d : Float) (x y : Neighbor) → Holdable d → Holdable x.distance → Holdable y.distance → before y x ≡ false → Near d y → Near d x
+near_earlier d x y D X Y h n = go (before x y) refl
   where
     go : (b : Bool) → before x y ≡ b → Near d x
     go true q = near_before d x y D X Y q n
@@ -99,12 +99,12 @@ near_last d (x ∷ y ∷ l) zero z D L S e n = absurd (omega arith)
 near_last d (x ∷ y ∷ l) (suc i) z D L S e n = go (near_last d (y ∷ l) i z D L.1 S.1 (omega arith) n)
   where
     go : All (Near d) (y ∷ l) → All (Near d) (x ∷ y ∷ l)
-    go N = (near-earlier d x y D L.0 L.1.0 S.0.0 N.0, N)
+    go N = (near_earlier d x y D L.0 L.1.0 S.0.0 N.0, N)
 
-refused-near : (e : Neighbor) (l : List Neighbor) → Holdable e.distance → AllHoldable l → Ascending l → lookTakes e l ≡ false → All (Near e.distance) l
-unfolding lookTakes farthest
-refused-near e [] E L S h = tt
-refused-near e (x ∷ l) E L S h =
+refused_near : (e : Neighbor) (l : List Neighbor) → Holdable e.distance → AllHoldable l → Ascending l → look_takes e l ≡ false → All (Near e.distance) l
+unfolding look_takes farthest
+refused_near e [] E L S h = tt
+refused_near e (x ∷ l) E L S h =
     let z = neighbor 0 zero32 in
     let i = length (x ∷ l) - 1 in
     near_last e.distance (x ∷ l) i z E L S (omega arith) (not-false (lt (get_or (x ∷ l) i z).distance e.distance) h)
@@ -112,16 +112,16 @@ refused-near e (x ∷ l) E L S h =
 -- ---- kept by every move
 
 -- the offer was refused at its look
-unfoldable pub refusedAt : Stage → Bool
-refusedAt fresh = false
-refusedAt (looked taken) = not taken
-refusedAt (pushed taken) = not taken
-refusedAt (measured taken longer) = not taken
-refusedAt (popped taken longer) = not taken
+unfoldable pub refused_at : Stage → Bool
+refused_at fresh = false
+refused_at (looked taken) = not taken
+refused_at (pushed taken) = not taken
+refused_at (measured taken longer) = not taken
+refused_at (popped taken longer) = not taken
 
 -- what is refused after a step was refused before it, or the step was the look
-next-refused : (k : ℕ) (e : Neighbor) (l : List Neighbor) (s : Stage) → refusedAt (nextStage k false e l s) ≡ true → (lookTakes e l ≡ false) ⊎ (refusedAt s ≡ true)
-unfolding nextStage refusedAt look lookTakes
+next-refused : (k : ℕ) (e : Neighbor) (l : List Neighbor) (s : Stage) → refused_at (next_stage k false e l s) ≡ true → (look_takes e l ≡ false) ⊎ (refused_at s ≡ true)
+unfolding next_stage refused_at look look_takes
 next-refused k e l fresh h = inl (not-true (not (lt (farthest l) e.distance)) h)
 next-refused k e l (looked taken) h = inr h
 next-refused k e l (pushed taken) h = inr h
@@ -131,62 +131,62 @@ next-refused k e l (popped taken longer) h = inr h
 -- refused offers are farther than all that their lists will hold
 pub record Told (n k : ℕ) (goal : ℕ → List Neighbor) (r : Relay) : Type 0 where
   pub aims : Aims n k goal r
-  pub refused : (i : ℕ) (b : Bool) → i < length r.jobs → equalNodes (jobAt r i) ≡ false → refusedAt (stageOf b (jobAt r i)) ≡ true
-      → All (Near (jobAt r i).distance) (goal (target b (jobAt r i)))
+  pub refused : (i : ℕ) (b : Bool) → i < length r.jobs → equal_nodes (job_at r i) ≡ false → refused_at (stage_of b (job_at r i)) ≡ true
+      → All (Near (job_at r i).distance) (goal (target b (job_at r i)))
 
 module _ {n k : ℕ} {goal : ℕ → List Neighbor} (r : Relay) (T : Told n k goal r) (i : ℕ) (h : i < length r.jobs) where
   F : Formed n k r
   F = T.aims.formed
 
   -- of the half that moves
-  moving : (b : Bool) → isPopped (jobAt r i).first ≡ b → equalNodes (jobAt r i) ≡ false
-      → refusedAt (nextStage k (equalNodes (jobAt r i)) (entry_of b (jobAt r i)) (found r i b) (stageOf b (jobAt r i))) ≡ true
-      → All (Near (jobAt r i).distance) (goal (target b (jobAt r i)))
-  moving b half q f = go (next-refused k (entry_of b j) (found r i b) (stageOf b j) (subst (λ (c : Bool). refusedAt (nextStage k c (entry_of b j) (found r i b) (stageOf b j)) ≡ true) q f))
+  moving : (b : Bool) → is_popped (job_at r i).first ≡ b → equal_nodes (job_at r i) ≡ false
+      → refused_at (next_stage k (equal_nodes (job_at r i)) (entry_of b (job_at r i)) (found r i b) (stage_of b (job_at r i))) ≡ true
+      → All (Near (job_at r i).distance) (goal (target b (job_at r i)))
+  moving b half q f = go (next-refused k (entry_of b j) (found r i b) (stage_of b j) (subst (λ (c : Bool). refused_at (next_stage k c (entry_of b j) (found r i b) (stage_of b j)) ≡ true) q f))
     where
       j : Job
-      j = jobAt r i
+      j = job_at r i
 
       t : ℕ
-      t = target b (jobAt r i)
+      t = target b (job_at r i)
 
-      same-distance : (c : Bool) → (entry_of c (jobAt r i)).distance ≡ (jobAt r i).distance
+      same-distance : (c : Bool) → (entry_of c (job_at r i)).distance ≡ (job_at r i).distance
       same-distance false = refl
       same-distance true = refl
 
-      go : (lookTakes (entry_of b (jobAt r i)) (found r i b) ≡ false) ⊎ (refusedAt (stageOf b (jobAt r i)) ≡ true) → All (Near (jobAt r i).distance) (goal (target b (jobAt r i)))
+      go : (look_takes (entry_of b (job_at r i)) (found r i b) ≡ false) ⊎ (refused_at (stage_of b (job_at r i)) ≡ true) → All (Near (job_at r i).distance) (goal (target b (job_at r i)))
       go (inr g) = T.refused i b h q g
       go (inl g) =
-          let L = F.lists (target b (jobAt r i)) (target_below r F i h b half) in
+          let L = F.lists (target b (job_at r i)) (target_below r F i h b half) in
           let D = (job-formed r F i h b half).held in
           let room = room-before r F i h b half in
-          subst (All (Near (jobAt r i).distance)) (T.aims.aims (target b (jobAt r i)) (target_below r F i h b half))
-          (near-all k (jobAt r i).distance (left (target b (jobAt r i)) r.jobs) (found r i b) D (held-left n (target b (jobAt r i)) r.jobs F.jobs) L.held (omega arith)
-          (all_take (Near (jobAt r i).distance) k (found r i b)
+          subst (All (Near (job_at r i).distance)) (T.aims.aims (target b (job_at r i)) (target_below r F i h b half))
+          (near_all k (job_at r i).distance (left (target b (job_at r i)) r.jobs) (found r i b) D (held-left n (target b (job_at r i)) r.jobs F.jobs) L.held (omega arith)
+          (all_take (Near (job_at r i).distance) k (found r i b)
           (subst (λ (x : Float). All (Near x) (found r i b)) (same-distance b)
-          (refused-near (entry_of b (jobAt r i)) (found r i b) (offer-held b (jobAt r i) D) L.held L.ascends g))))
+          (refused_near (entry_of b (job_at r i)) (found r i b) (offer-held b (job_at r i) D) L.held L.ascends g))))
 
   -- of job i after the move, both halves
-  halves : (a c : Bool) → isPopped (jobAt r i).first ≡ a → equalNodes (jobAt r i) ≡ false → refusedAt (stageOf c (jobAfter k r i a)) ≡ true
-      → All (Near (jobAt r i).distance) (goal (target c (jobAt r i)))
+  halves : (a c : Bool) → is_popped (job_at r i).first ≡ a → equal_nodes (job_at r i) ≡ false → refused_at (stage_of c (job_after k r i a)) ≡ true
+      → All (Near (job_at r i).distance) (goal (target c (job_at r i)))
   halves false false p q f = moving false p q f
   halves false true p q f = T.refused i true h q f
   halves true false p q f = T.refused i false h q f
   halves true true p q f = moving true p q f
 
-  after_equal : (a : Bool) → equalNodes (jobAfter k r i a) ≡ equalNodes (jobAt r i)
+  after_equal : (a : Bool) → equal_nodes (job_after k r i a) ≡ equal_nodes (job_at r i)
   after_equal false = refl
   after_equal true = refl
 
-  after-goal : (a c : Bool) → All (Near (jobAt r i).distance) (goal (target c (jobAt r i))) → All (Near (jobAfter k r i a).distance) (goal (target c (jobAfter k r i a)))
-  after-goal false false N = N
-  after-goal false true N = N
-  after-goal true false N = N
-  after-goal true true N = N
+  after_goal : (a c : Bool) → All (Near (job_at r i).distance) (goal (target c (job_at r i))) → All (Near (job_after k r i a).distance) (goal (target c (job_after k r i a)))
+  after_goal false false N = N
+  after_goal false true N = N
+  after_goal true false N = N
+  after_goal true true N = N
 
-  at-job : (c : Bool) → equalNodes (jobAfter k r i (halfAt r i)) ≡ false → refusedAt (stageOf c (jobAfter k r i (halfAt r i))) ≡ true
-      → All (Near (jobAfter k r i (halfAt r i)).distance) (goal (target c (jobAfter k r i (halfAt r i))))
-  at-job c q f = after-goal (halfAt r i) c (halves (halfAt r i) c refl (sym (after_equal (halfAt r i)) ∙ q) f)
+  at-job : (c : Bool) → equal_nodes (job_after k r i (half_at r i)) ≡ false → refused_at (stage_of c (job_after k r i (half_at r i))) ≡ true
+      → All (Near (job_after k r i (half_at r i)).distance) (goal (target c (job_after k r i (half_at r i))))
+  at-job c q f = after_goal (half_at r i) c (halves (half_at r i) c refl (sym (after_equal (half_at r i)) ∙ q) f)
 
   pub moved_told : Told n k goal (moved k r i)
   moved_told =
@@ -195,51 +195,51 @@ module _ {n k : ℕ} {goal : ℕ → List Neighbor} (r : Relay) (T : Told n k go
         refused = λ (x : ℕ) (c : Bool) (l : x < length (moved k r i).jobs). at x c (let m = moved_length k r i in omega arith) (eqb i x) refl;
       }
     where
-      at : (x : ℕ) (c : Bool) → x < length r.jobs → (b : Bool) → eqb i x ≡ b → equalNodes (jobAt (moved k r i) x) ≡ false → refusedAt (stageOf c (jobAt (moved k r i) x)) ≡ true
-          → All (Near (jobAt (moved k r i) x).distance) (goal (target c (jobAt (moved k r i) x)))
+      at : (x : ℕ) (c : Bool) → x < length r.jobs → (b : Bool) → eqb i x ≡ b → equal_nodes (job_at (moved k r i) x) ≡ false → refused_at (stage_of c (job_at (moved k r i) x)) ≡ true
+          → All (Near (job_at (moved k r i) x).distance) (goal (target c (job_at (moved k r i) x)))
       at x c l true q =
-          subst (λ (y : ℕ). equalNodes (jobAt (moved k r i) y) ≡ false → refusedAt (stageOf c (jobAt (moved k r i) y)) ≡ true → All (Near (jobAt (moved k r i) y).distance) (goal (target c (jobAt (moved k r i) y)))) (eqb-true i x q)
-          (subst (λ (y : Job). equalNodes y ≡ false → refusedAt (stageOf c y) ≡ true → All (Near y.distance) (goal (target c y))) (sym (moved_same k r i h)) (at-job c))
+          subst (λ (y : ℕ). equal_nodes (job_at (moved k r i) y) ≡ false → refused_at (stage_of c (job_at (moved k r i) y)) ≡ true → All (Near (job_at (moved k r i) y).distance) (goal (target c (job_at (moved k r i) y)))) (eqb-true i x q)
+          (subst (λ (y : Job). equal_nodes y ≡ false → refused_at (stage_of c y) ≡ true → All (Near y.distance) (goal (target c y))) (sym (moved_same k r i h)) (at-job c))
       at x c l false q =
-          subst (λ (y : Job). equalNodes y ≡ false → refusedAt (stageOf c y) ≡ true → All (Near y.distance) (goal (target c y))) (sym (moved_other k r i x (eqb-false i x q)))
+          subst (λ (y : Job). equal_nodes y ≡ false → refused_at (stage_of c y) ≡ true → All (Near y.distance) (goal (target c y))) (sym (moved_other k r i x (eqb-false i x q)))
           (T.refused x c l)
 
-pub ran-told : {n k : ℕ} {goal : ℕ → List Neighbor} (r : Relay) (is : List ℕ) → Told n k goal r → Told n k goal (ran k is r)
-ran-told {n} {k} {goal} =
-    ran-keeps k (Told n k goal) (λ (r : Relay) (i : ℕ) (h : i < length r.jobs) (f : isFinished (jobAt r i) ≡ false) (T : Told n k goal r). moved_told r T i h)
+pub ran_told : {n k : ℕ} {goal : ℕ → List Neighbor} (r : Relay) (is : List ℕ) → Told n k goal r → Told n k goal (ran k is r)
+ran_told {n} {k} {goal} =
+    ran_keeps k (Told n k goal) (λ (r : Relay) (i : ℕ) (h : i < length r.jobs) (f : is_finished (job_at r i) ≡ false) (T : Told n k goal r). moved_told r T i h)
 
 -- ---- at the end
 
-refused-popped : (s : Stage) → isPopped s ≡ true → taken_of s ≡ false → refusedAt s ≡ true
-unfolding isPopped taken_of refusedAt
+refused-popped : (s : Stage) → is_popped s ≡ true → taken_of s ≡ false → refused_at s ≡ true
+unfolding is_popped taken_of refused_at
 refused-popped fresh h f = absurd (true≢false (sym h))
 refused-popped (looked taken) h f = rw f
 refused-popped (pushed taken) h f = rw f
 refused-popped (measured taken longer) h f = rw f
 refused-popped (popped taken longer) h f = rw f
 
-popped-half : (b : Bool) (j : Job) → isFinished j ≡ true → isPopped (stageOf b j) ≡ true
-popped-half false j h = (both (isPopped j.first) (isPopped j.second) h).0
-popped-half true j h = (both (isPopped j.first) (isPopped j.second) h).1
+popped_half : (b : Bool) (j : Job) → is_finished j ≡ true → is_popped (stage_of b j) ≡ true
+popped_half false j h = (both (is_popped j.first) (is_popped j.second) h).0
+popped_half true j h = (both (is_popped j.first) (is_popped j.second) h).1
 
 -- an offer that stands in its list was taken up
-pub taken-up : {n k : ℕ} {goal : ℕ → List Neighbor} (r : Relay) → Told n k goal r → (i : ℕ) (b : Bool) (p : ℕ) (z : Neighbor) → i < length r.jobs → equalNodes (jobAt r i) ≡ false
-    → isFinished (jobAt r i) ≡ true → p < length (goal (target b (jobAt r i))) → get_or (goal (target b (jobAt r i))) p z ≡ entry_of b (jobAt r i) → taken_of (stageOf b (jobAt r i)) ≡ true
-taken-up {n} {k} {goal} r T i b p z h q f pn e = go (taken_of (stageOf b (jobAt r i))) refl
+pub taken-up : {n k : ℕ} {goal : ℕ → List Neighbor} (r : Relay) → Told n k goal r → (i : ℕ) (b : Bool) (p : ℕ) (z : Neighbor) → i < length r.jobs → equal_nodes (job_at r i) ≡ false
+    → is_finished (job_at r i) ≡ true → p < length (goal (target b (job_at r i))) → get_or (goal (target b (job_at r i))) p z ≡ entry_of b (job_at r i) → taken_of (stage_of b (job_at r i)) ≡ true
+taken-up {n} {k} {goal} r T i b p z h q f pn e = go (taken_of (stage_of b (job_at r i))) refl
   where
-    D : Holdable (jobAt r i).distance
-    D = (job-formed r T.aims.formed i h (halfAt r i) refl).held
+    D : Holdable (job_at r i).distance
+    D = (job-formed r T.aims.formed i h (half_at r i) refl).held
 
-    same-distance : (c : Bool) → (entry_of c (jobAt r i)).distance ≡ (jobAt r i).distance
+    same-distance : (c : Bool) → (entry_of c (job_at r i)).distance ≡ (job_at r i).distance
     same-distance false = refl
     same-distance true = refl
 
-    go : (c : Bool) → taken_of (stageOf b (jobAt r i)) ≡ c → c ≡ true
+    go : (c : Bool) → taken_of (stage_of b (job_at r i)) ≡ c → c ≡ true
     go true g = refl
     go false g =
-        let N = T.refused i b h q (refused-popped (stageOf b (jobAt r i)) (popped-half b (jobAt r i) f) g) in
-        let m = all-at (Near (jobAt r i).distance) (goal (target b (jobAt r i))) p z N pn in
-        let a = subst (λ (x : Neighbor). Near (jobAt r i).distance x) e m in
-        let c = subst (λ (x : Float). lt x (jobAt r i).distance ≡ true) (same-distance b) a in
-        let u = ltb-true (to_bits binary32 (jobAt r i).distance) (to_bits binary32 (jobAt r i).distance) (sym (bits-lt (jobAt r i).distance (jobAt r i).distance D D) ∙ c) in
+        let N = T.refused i b h q (refused-popped (stage_of b (job_at r i)) (popped_half b (job_at r i) f) g) in
+        let m = all-at (Near (job_at r i).distance) (goal (target b (job_at r i))) p z N pn in
+        let a = subst (λ (x : Neighbor). Near (job_at r i).distance x) e m in
+        let c = subst (λ (x : Float). lt x (job_at r i).distance ≡ true) (same-distance b) a in
+        let u = ltb-true (to_bits binary32 (job_at r i).distance) (to_bits binary32 (job_at r i).distance) (sym (bits-lt (job_at r i).distance (job_at r i).distance D D) ∙ c) in
         absurd (omega arith)

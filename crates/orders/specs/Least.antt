@@ -27,4 +27,4 @@ pub record IsLeast (k : ℕ) (given list : List Neighbor) : Type 0 where
   pub rest : List Neighbor
   pub all : Perm given (list ++ rest)
   -- and none of the rest is nearer than one of them
-  pub none-nearer : All (NoneNearer rest) list
+  pub none_nearer : All (NoneNearer rest) list

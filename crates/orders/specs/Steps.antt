@@ -3,16 +3,16 @@ use Rattle.std.specs.Prelude.{Bool, true, false, not, cond, List, [], ◌∷◌,
 use Rattle.std.specs.Float.Ieee.{lt}
 use Rattle.rules.specs.declared.Neighbor.{Neighbor}
 use Rattle.rules.specs.Search.{farthest}
-use Rattle.rules.specs.Relay.{Stage, fresh, looked, pushed, measured, popped, Job, equalNodes, forU, forV}
+use Rattle.rules.specs.Relay.{Stage, fresh, looked, pushed, measured, popped, Job, equal_nodes, for_u, for_v}
 use Rattle.relay_kept.specs.Halves.{others}
 
 -- "taken up unless the distance is greater than the list's last"
-unfoldable pub lookTakes : Neighbor → List Neighbor → Bool
-lookTakes e l = not (lt (farthest l) e.distance)
+unfoldable pub look_takes : Neighbor → List Neighbor → Bool
+look_takes e l = not (lt (farthest l) e.distance)
 
 -- "pop the last": all but the one at the last place
-unfoldable pub popLast : List Neighbor → List Neighbor
-popLast l = others (length l - 1) l
+unfoldable pub pop_last : List Neighbor → List Neighbor
+pop_last l = others (length l - 1) l
 
 -- the offer is still to be pushed
 unfoldable pub waits : Bool → Stage → Bool
@@ -27,18 +27,18 @@ abbrev pub waiting : Bool → Neighbor → Stage → List Neighbor
 waiting equal e s = cond (waits equal s) (e ∷ []) []
 
 -- what the first half of a job, and the second, has still to push to w's list
-abbrev pub leftFirst : ℕ → Job → List Neighbor
-leftFirst w j = cond (eqb j.u w) (waiting (equalNodes j) (forU j) j.first) []
+abbrev pub left_first : ℕ → Job → List Neighbor
+left_first w j = cond (eqb j.u w) (waiting (equal_nodes j) (for_u j) j.first) []
 
-abbrev pub leftSecond : ℕ → Job → List Neighbor
-leftSecond w j = cond (eqb j.v w) (waiting (equalNodes j) (forV j) j.second) []
+abbrev pub left_second : ℕ → Job → List Neighbor
+left_second w j = cond (eqb j.v w) (waiting (equal_nodes j) (for_v j) j.second) []
 
 -- the half beside the one that moves
-abbrev pub leftBeside : ℕ → Bool → Job → List Neighbor
-leftBeside w false j = leftSecond w j
-leftBeside w true j = leftFirst w j
+abbrev pub left_beside : ℕ → Bool → Job → List Neighbor
+left_beside w false j = left_second w j
+left_beside w true j = left_first w j
 
 -- all that jobs have still to push to w's list
 unfoldable pub left : ℕ → List Job → List Neighbor
 left w [] = []
-left w (j ∷ js) = (leftFirst w j ++ leftSecond w j) ++ left w js
+left w (j ∷ js) = (left_first w j ++ left_second w j) ++ left w js

@@ -8,72 +8,72 @@ use native.Mathlib.Numerals.{add-one}
 use lib.Dec.{T, ltb, ltb→lt, nltb→le}
 use lib.ListN.{length, take, drop, get_or, set, length-set, length-append, drop_of_length-le}
 use lib.Seq.{drop-cons}
-use Rattle.pages.specs.Page.{writtenOver, Puts}
+use Rattle.pages.specs.Page.{written_over, Puts}
 
-over-length : (at : ℕ) (text page : List ℕ) → length (writtenOver at text page) ≡ length page
-unfolding writtenOver
+over-length : (at : ℕ) (text page : List ℕ) → length (written_over at text page) ≡ length page
+unfolding written_over
 over-length at text [] = refl
 over-length zero [] (x ∷ xs) = refl
 over-length zero (b ∷ bs) (x ∷ xs) = ap suc (over-length zero bs xs)
 over-length (suc at) text (x ∷ xs) = ap suc (over-length at text xs)
 
-over_none : (at : ℕ) (page : List ℕ) → writtenOver at [] page ≡ page
-unfolding writtenOver
+over_none : (at : ℕ) (page : List ℕ) → written_over at [] page ≡ page
+unfolding written_over
 over_none at [] = refl
 over_none zero (x ∷ xs) = refl
 over_none (suc at) (x ∷ xs) = ap (λ (l : List ℕ). x ∷ l) (over_none at xs)
 
-over-full : (at : ℕ) (text page : List ℕ) → length page ≤ at → writtenOver at text page ≡ page
-unfolding writtenOver
-over-full at text [] h = refl
-over-full zero text (x ∷ xs) h = absurd (omega (arith, h))
-over-full (suc at) text (x ∷ xs) h = ap (λ (l : List ℕ). x ∷ l) (over-full at text xs (omega (arith, h)))
+over_full : (at : ℕ) (text page : List ℕ) → length page ≤ at → written_over at text page ≡ page
+unfolding written_over
+over_full at text [] h = refl
+over_full zero text (x ∷ xs) h = absurd (omega (arith, h))
+over_full (suc at) text (x ∷ xs) h = ap (λ (l : List ℕ). x ∷ l) (over_full at text xs (omega (arith, h)))
 
-over-one : (at b : ℕ) (bs page : List ℕ) → writtenOver (suc at) bs (set page at b) ≡ writtenOver at (b ∷ bs) page
-unfolding writtenOver
+over-one : (at b : ℕ) (bs page : List ℕ) → written_over (suc at) bs (set page at b) ≡ written_over at (b ∷ bs) page
+unfolding written_over
 over-one at b bs [] = refl
 over-one zero b bs (x ∷ xs) = refl
 over-one (suc at) b bs (x ∷ xs) = ap (λ (l : List ℕ). x ∷ l) (over-one at b bs xs)
 
-over-append : (at : ℕ) (a b page : List ℕ) → writtenOver (at + length a) b (writtenOver at a page) ≡ writtenOver at (a ++ b) page
-over-append at [] b page = rw (over_none at page) (ap (λ (n : ℕ). writtenOver n b page) (omega arith))
+over-append : (at : ℕ) (a b page : List ℕ) → written_over (at + length a) b (written_over at a page) ≡ written_over at (a ++ b) page
+over-append at [] b page = rw (over_none at page) (ap (λ (n : ℕ). written_over n b page) (omega arith))
 over-append at (x ∷ a) b page =
-    ap (λ (n : ℕ). writtenOver n b (writtenOver at (x ∷ a) page)) (omega arith) ∙ ap (writtenOver (suc at + length a) b) (sym (over-one at x a page))
+    ap (λ (n : ℕ). written_over n b (written_over at (x ∷ a) page)) (omega arith) ∙ ap (written_over (suc at + length a) b) (sym (over-one at x a page))
     ∙ over-append (suc at) a b (set page at x) ∙ over-one at x (a ++ b) page
 
 module _ (text page : List ℕ) where
   -- a place behind the page is as its end
-  over-clipped : (at : ℕ) → writtenOver (min at (length page)) text page ≡ writtenOver at text page
-  over-clipped at = go (ltb at (length page)) (ltb→lt at (length page)) (nltb→le at (length page))
+  over_clipped : (at : ℕ) → written_over (min at (length page)) text page ≡ written_over at text page
+  over_clipped at = go (ltb at (length page)) (ltb→lt at (length page)) (nltb→le at (length page))
     where
-      go : (b : Bool) → (T b → at < length page) → (T (not b) → length page ≤ at) → writtenOver (min at (length page)) text page ≡ writtenOver at text page
-      go true lt le = let h = lt tt in ap (λ (n : ℕ). writtenOver n text page) (omega (arith, h))
-      go false lt le = let h = le tt in over-full (min at (length page)) text page (omega (arith, h)) ∙ sym (over-full at text page h)
+      go : (b : Bool) → (T b → at < length page) → (T (not b) → length page ≤ at) → written_over (min at (length page)) text page ≡ written_over at text page
+      go true lt le = let h = lt tt in ap (λ (n : ℕ). written_over n text page) (omega (arith, h))
+      go false lt le = let h = le tt in over_full (min at (length page)) text page (omega (arith, h)) ∙ sym (over_full at text page h)
 
-pub puts-long : {at r : ℕ} {text page left : List ℕ} → Puts at text page r left → length left ≡ length page
-puts-long {at} {text} {page} p = ap length p.written ∙ over-length at text page
+pub puts_long : {at r : ℕ} {text page left : List ℕ} → Puts at text page r left → length left ≡ length page
+puts_long {at} {text} {page} p = ap length p.written ∙ over-length at text page
 
-pub take-clipped : (n : ℕ) (page : List ℕ) → take (min n (length page)) page ≡ take n page
-take-clipped zero page = (let none : min 0 (length page) ≡ 0 = omega arith in rw none)
-take-clipped (suc n) [] = (let none : min (suc n) 0 ≡ 0 = omega arith in rw none)
-take-clipped (suc n) (x ∷ page) = (let less : min (suc n) (suc (length page)) ≡ suc (min n (length page)) = omega arith in rw less (ap (λ (l : List ℕ). x ∷ l) (take-clipped n page)))
+pub take_clipped : (n : ℕ) (page : List ℕ) → take (min n (length page)) page ≡ take n page
+take_clipped zero page = (let none : min 0 (length page) ≡ 0 = omega arith in rw none)
+take_clipped (suc n) [] = (let none : min (suc n) 0 ≡ 0 = omega arith in rw none)
+take_clipped (suc n) (x ∷ page) = (let less : min (suc n) (suc (length page)) ≡ suc (min n (length page)) = omega arith in rw less (ap (λ (l : List ℕ). x ∷ l) (take_clipped n page)))
 
 -- an equal text
-pub puts-text : {at r : ℕ} {a b page left : List ℕ} → a ≡ b → Puts at a page r left → Puts at b page r left
-puts-text {at} {r} {a} {b} {page} {left} e = subst (λ (t : List ℕ). Puts at t page r left) e
+pub puts_text : {at r : ℕ} {a b page left : List ℕ} → a ≡ b → Puts at a page r left → Puts at b page r left
+puts_text {at} {r} {a} {b} {page} {left} e = subst (λ (t : List ℕ). Puts at t page r left) e
 
 -- a text put behind a text
-pub puts-both : {at q r : ℕ} {a b page left last : List ℕ} → Puts at a page q left → Puts q b left r last → Puts at (a ++ b) page r last
-puts-both {at} {q} {r} {a} {b} {page} {left} {last} x y =
-    let long = puts-long x in
+pub puts_both : {at q r : ℕ} {a b page left last : List ℕ} → Puts at a page q left → Puts q b left r last → Puts at (a ++ b) page r last
+puts_both {at} {q} {r} {a} {b} {page} {left} {last} x y =
+    let long = puts_long x in
     let both = length-append a b in
     let q≡ = x.place in
     let r≡ = y.place in
     record {
       place = omega arith;
       written =
-          y.written ∙ ap (λ (l : List ℕ). writtenOver q b l) x.written ∙ ap (λ (n : ℕ). writtenOver n b (writtenOver at a page)) (x.place ∙ ap (min (at + length a)) (sym (over-length at a page)))
-          ∙ over-clipped b (writtenOver at a page) (at + length a) ∙ over-append at a b page;
+          y.written ∙ ap (λ (l : List ℕ). written_over q b l) x.written ∙ ap (λ (n : ℕ). written_over n b (written_over at a page)) (x.place ∙ ap (min (at + length a)) (sym (over-length at a page)))
+          ∙ over_clipped b (written_over at a page) (at + length a) ∙ over-append at a b page;
     }
 
 -- in a loop that puts one text behind another: what was put, and what is left of the whole
@@ -83,57 +83,57 @@ pub record Running (at : ℕ) (whole page₀ : List ℕ) (rest page : List ℕ) 
   pub all : done ++ rest ≡ whole
 
 -- .. from a place that a text was put up to
-pub running-start : {at place : ℕ} {whole text page₀ page : List ℕ} → Puts at text page₀ place page → Running place whole page whole page place
-running-start {place} {page} p =
+pub running_start : {at place : ℕ} {whole text page₀ page : List ℕ} → Puts at text page₀ place page → Running place whole page whole page place
+running_start {place} {page} p =
     let behind = p.place in
-    let long = puts-long p in
+    let long = puts_long p in
     record { done = []; put = record { place = omega arith; written = sym (over_none place page) }; all = refl }
 
-pub running-turn :
+pub running_turn :
     {at place next : ℕ} {whole page₀ page left text rest : List ℕ} → Running at whole page₀ (text ++ rest) page place → Puts place text page next left
     → Running at whole page₀ rest left next
-running-turn {text} {rest} r p =
-    record { done = r.done ++ text; put = puts-both r.put p; all = append_assoc r.done text rest ∙ r.all }
+running_turn {text} {rest} r p =
+    record { done = r.done ++ text; put = puts_both r.put p; all = append_assoc r.done text rest ∙ r.all }
 
-pub running-rest : {at place : ℕ} {whole page₀ page rest same : List ℕ} → rest ≡ same → Running at whole page₀ rest page place → Running at whole page₀ same page place
-running-rest {at} {place} {whole} {page₀} {page} e = subst (λ (l : List ℕ). Running at whole page₀ l page place) e
+pub running_rest : {at place : ℕ} {whole page₀ page rest same : List ℕ} → rest ≡ same → Running at whole page₀ rest page place → Running at whole page₀ same page place
+running_rest {at} {place} {whole} {page₀} {page} e = subst (λ (l : List ℕ). Running at whole page₀ l page place) e
 
-pub running-long : {at place : ℕ} {whole page₀ page rest : List ℕ} → Running at whole page₀ rest page place → length page ≡ length page₀
-running-long r = puts-long r.put
+pub running_long : {at place : ℕ} {whole page₀ page rest : List ℕ} → Running at whole page₀ rest page place → length page ≡ length page₀
+running_long r = puts_long r.put
 
-pub running-end : {at place : ℕ} {whole page₀ page : List ℕ} → Running at whole page₀ [] page place → Puts at whole page₀ place page
-running-end r = puts-text (sym (append-nil r.done) ∙ r.all) r.put
+pub running_end : {at place : ℕ} {whole page₀ page : List ℕ} → Running at whole page₀ [] page place → Puts at whole page₀ place page
+running_end r = puts_text (sym (append-nil r.done) ∙ r.all) r.put
 
 -- in the loop of `put`: what is left of the text, over the page as it is, is the whole over the page as it was
 pub record Putting (at : ℕ) (text page₀ page : List ℕ) (i place : ℕ) : Type 0 where
-  pub rest : writtenOver place (drop i text) page ≡ writtenOver at text page₀
+  pub rest : written_over place (drop i text) page ≡ written_over at text page₀
   pub here : place ≡ at + i
   pub within : i ≤ length text
   pub long : length page ≡ length page₀
 
 module _ {at : ℕ} {text page₀ page : List ℕ} {i place : ℕ} (inv : Putting at text page₀ page i place) where
-  pub putting-turn : i < length text → Putting at text page₀ (set page place (get_or text i 0)) (i + 1) (place + 1)
-  putting-turn h =
+  pub putting_turn : i < length text → Putting at text page₀ (set page place (get_or text i 0)) (i + 1) (place + 1)
+  putting_turn h =
       let here = inv.here in
       record {
-        rest = rw (add-one i, add-one place) (over-one place (get_or text i 0) (drop (suc i) text) page ∙ ap (λ (l : List ℕ). writtenOver place l page) (sym (drop-cons text i 0 h)) ∙ inv.rest);
+        rest = rw (add-one i, add-one place) (over-one place (get_or text i 0) (drop (suc i) text) page ∙ ap (λ (l : List ℕ). written_over place l page) (sym (drop-cons text i 0 h)) ∙ inv.rest);
         here = omega arith;
         within = omega arith;
         long = length-set page place (get_or text i 0) ∙ inv.long;
       }
 
   -- the page is full
-  pub putting-full : length page ≤ place → Puts at text page₀ (length page) page
-  putting-full h =
+  pub putting_full : length page ≤ place → Puts at text page₀ (length page) page
+  putting_full h =
       let here = inv.here in
       let within = inv.within in
       let long = inv.long in
-      record { place = omega arith; written = sym (over-full place (drop i text) page h) ∙ inv.rest }
+      record { place = omega arith; written = sym (over_full place (drop i text) page h) ∙ inv.rest }
 
   -- the text is at its end
-  pub putting-end : length text ≤ i → {r : ℕ} → r ≡ min place (length page) → Puts at text page₀ r page
-  putting-end h {r} e =
+  pub putting_end : length text ≤ i → {r : ℕ} → r ≡ min place (length page) → Puts at text page₀ r page
+  putting_end h {r} e =
       let here = inv.here in
       let within = inv.within in
       let long = inv.long in
-      record { place = omega arith; written = sym (over_none place page) ∙ ap (λ (l : List ℕ). writtenOver place l page) (sym (drop_of_length-le text h)) ∙ inv.rest }
+      record { place = omega arith; written = sym (over_none place page) ∙ ap (λ (l : List ℕ). written_over place l page) (sym (drop_of_length-le text h)) ∙ inv.rest }

@@ -17,7 +17,7 @@ use lib.Ieee.Fits.{down_pos, kept-lt}
 use lib.Ieee.Exact.{HasValue, round_exact}
 use lib.Ieee.Order.{round_mono}
 use lib.Ieee.Scale.{finite, round_val, round_under, grid}
-use Rattle.rules.specs.Distance.{lane, total_of, zero32, largest, fit, answer, distance_of, unfit, lanes_of, nodesApart}
+use Rattle.rules.specs.Distance.{lane, total_of, zero32, largest, fit, answer, distance_of, unfit, lanes_of, nodes_apart}
 use Rattle.rules.specs.Loops.{part}
 use Rattle.rules.specs.Refusals.{decide, passed, row10}
 use Rattle.kernels.proofs.Pairs.{all-clear}
@@ -26,7 +26,7 @@ use Rattle.lists.specs.All.{All}
 use Rattle.lists.proofs.Plain.{all_take, all_of}
 use Rattle.encoded.proofs.Rows.{all_drop}
 use Rattle.zeros.proofs.Laws as below
-use Rattle.pairs.specs.Within.{within, allWithin}
+use Rattle.pairs.specs.Within.{within, all_within}
 
 -- finite, and at most 2 ^ b in size
 abbrev Within : ℕ → Float → Type 0
@@ -58,8 +58,8 @@ small-more b c (fin s m e) l h = (h.0, le_trans h.1 (mul-le-mul_right (down e) (
 -- ---- rounding
 
 -- less or equal, by a test of equality on either side
-le-by : (a b : ℕ) (q z : Bool) → (T q → a ≡ b) → T (ltb a b || (q && z)) → a ≤ b
-le-by a b q z = go (ltb a b) q (ltb→lt a b)
+le_by : (a b : ℕ) (q z : Bool) → (T q → a ≡ b) → T (ltb a b || (q && z)) → a ≤ b
+le_by a b q z = go (ltb a b) q (ltb→lt a b)
   where
     go : (p q : Bool) → (T p → a < b) → (T q → a ≡ b) → T (p || (q && z)) → a ≤ b
     go true q l e t = let h = l tt in omega arith
@@ -67,7 +67,7 @@ le-by a b q z = go (ltb a b) q (ltb→lt a b)
     go false false l e t = absurd t
 
 le-cross : (a b : ℕ) (z : Bool) → T (ltb a b || (eqb a b && z)) → a ≤ b
-le-cross a b z h = le-by a b (eqb a b) z (eqb→eq a b) h
+le-cross a b z h = le_by a b (eqb a b) z (eqb→eq a b) h
 
 under : (b : ℕ) (x y : Float) (g c : ℕ) → HasValue x false g c → HasValue y false (2 ^ b) 1 → T (le x y) → Small b x
 unfolding le lt eq
@@ -87,14 +87,14 @@ minus nan = false
 minus (inf s) = s
 minus (fin s m e) = s
 
-finite-under : (b : ℕ) (x y : Float) → size x ≡ x → HasValue y false (2 ^ b) 1 → T (le x y) → T (finite x)
+finite_under : (b : ℕ) (x y : Float) → size x ≡ x → HasValue y false (2 ^ b) 1 → T (le x y) → T (finite x)
 unfolding le lt eq minus
-finite-under b nan y s q h = absurd h
-finite-under b (inf true) y s q h = absurd (true≢false (sym (ap minus s)))
-finite-under b (inf false) nan s q h = absurd q
-finite-under b (inf false) (inf t) s q h = absurd q
-finite-under b (inf false) (fin t n d) s q h = absurd h
-finite-under b (fin t m e) y s q h = tt
+finite_under b nan y s q h = absurd h
+finite_under b (inf true) y s q h = absurd (true≢false (sym (ap minus s)))
+finite_under b (inf false) nan s q h = absurd q
+finite_under b (inf false) (inf t) s q h = absurd q
+finite_under b (inf false) (fin t n d) s q h = absurd h
+finite_under b (fin t m e) y s q h = tt
 
 one-times : (x : ℕ) → 1 * x ≡ x
 one-times x = mul_comm 1 x ∙ mul-one x
@@ -108,7 +108,7 @@ small-round a c b C h l =
     let v : HasValue y false (2 ^ b) 1 =
     round_exact binary32 false (2 ^ b) 1 1 (b + 149) (pow_pos 0) (pow-lt q) (subst (λ (z : ℕ). z < 2 ^ 277) (sym p) (pow-lt below)) (sym (pow-add 2 b 149) ∙ sym (mul-one (1 * 2 ^ (b + 149)) ∙ p)) in
     let o : T (le (round binary32 false a c) y) = round_mono binary32 a c (2 ^ b) 1 C (pow_pos 0) (le_trans (le_of_eq (mul-one a)) h) in
-    let f : T (finite (round binary32 false a c)) = finite-under b (round binary32 false a c) y (size-round binary32 false a c) v o in
+    let f : T (finite (round binary32 false a c)) = finite_under b (round binary32 false a c) y (size-round binary32 false a c) v o in
     under b (round binary32 false a c) y (grid binary32 a c) (2 ^ 149) (round_val binary32 a c (round_under binary32 a c f)) v o
 
 -- ---- sums, differences and squares
@@ -125,8 +125,8 @@ over b x e d h = le_trans (mul-le-mul_right d h) (le_of_eq (mul_assoc (2 ^ b) e 
 over' : (b x d e : ℕ) → x ≤ 2 ^ b * d → x * e ≤ 2 ^ b * (e * d)
 over' b x d e h = le_trans (over b x d e h) (le_of_eq (ap (λ (z : ℕ). 2 ^ b * z) (mul_comm d e)))
 
-spread-most : (s t : Bool) (a b : ℕ) → spread s t a b ≤ a + b
-spread-most s t a b = go (beq s t)
+spread_most : (s t : Bool) (a b : ℕ) → spread s t a b ≤ a + b
+spread_most s t a b = go (beq s t)
   where
     go : (p : Bool) → cond p (a + b) (a - b + (b - a)) ≤ a + b
     go true = omega arith
@@ -142,7 +142,7 @@ within-add b (fin s m e) (fin t n d) l h g =
     let A = m * up e * down d in
     let B = n * up d * down e in
     let C = down e * down d in
-    let most : spread s t A B ≤ 2 ^ suc b * C = le_trans (spread-most s t A B) (twice b C A B (over b (m * up e) (down e) (down d) h) (over' b (n * up d) (down d) (down e) g)) in
+    let most : spread s t A B ≤ 2 ^ suc b * C = le_trans (spread_most s t A B) (twice b C A B (over b (m * up e) (down e) (down d) h) (over' b (n * up d) (down d) (down e) g)) in
     within-size (suc b) (sum binary32 s A t B C) (subst (Within (suc b)) (sym (size-sum binary32 s t A B C)) (small-within (suc b) (round binary32 false (spread s t A B) C) (small-round (spread s t A B) C (suc b) (mul-pos (down_pos e) (down_pos d)) most l)))
 
 within-neg : (b : ℕ) (x : Float) → Within b x → Within b (neg x)
@@ -224,8 +224,8 @@ module _ (lanes : List Float) (dimension : ℕ) (few : dimension ≤ 64) (small 
   unfolding lanes_of part
   lanes-few i = let e = length-take dimension (drop (i * dimension) lanes) in omega arith
 
-  pub apart-fit : (i j : ℕ) → unfit (nodesApart lanes dimension i j) ≡ false
-  unfolding nodesApart distance_of answer unfit
+  pub apart-fit : (i j : ℕ) → unfit (nodes_apart lanes dimension i j) ≡ false
+  unfolding nodes_apart distance_of answer unfit
   apart-fit i j =
       let a = lanes_of lanes dimension i in
       let b = lanes_of lanes dimension j in
@@ -247,7 +247,7 @@ by_tests (inf false) h g = absurd (true≢false (sym h))
 by_tests (fin false m e) h g = within-cross m e (le-cross (m * up e * 1) (1 * 2 ^ 30 * down e) _ (subst T (sym h) tt))
 by_tests (fin true m e) h g =
     within-cross m e
-    (le-by (m * up e * 1) (1 * 2 ^ 30 * down e) (eqb (1 * 2 ^ 30 * down e) (m * up e * 1)) _ (λ t. sym (eqb→eq (1 * 2 ^ 30 * down e) (m * up e * 1) t)) (subst T (sym g) tt))
+    (le_by (m * up e * 1) (1 * 2 ^ 30 * down e) (eqb (1 * 2 ^ 30 * down e) (m * up e * 1)) _ (λ t. sym (eqb→eq (1 * 2 ^ 30 * down e) (m * up e * 1) t)) (subst T (sym g) tt))
 
 cross-within : (m : ℕ) (e : ℤ) → m * up e ≤ 2 ^ 30 * down e → m * up e * 1 ≤ 1 * 2 ^ 30 * down e
 cross-within m e l = le_trans (le_of_eq (mul-one (m * up e))) (le_trans l (le_of_eq (ap (λ (z : ℕ). z * down e) (sym (one-times (2 ^ 30))))))
@@ -286,11 +286,11 @@ to-second (fin true m e) h =
     let b = 1 * 2 ^ 30 * down e in
     by_le a b (eqb b a) (λ (q : a ≡ b). eq-eqb b a (sym q)) (cross-within m e h)
 
-of-within : (b : ℕ) (x : Float) → within b x ≡ true → Within b x
+of_within : (b : ℕ) (x : Float) → within b x ≡ true → Within b x
 unfolding within
-of-within b nan h = absurd (true≢false (sym h))
-of-within b (inf s) h = absurd (true≢false (sym h))
-of-within b (fin s m e) h = leb-true (m * up e) (2 ^ b * down e) h
+of_within b nan h = absurd (true≢false (sym h))
+of_within b (inf s) h = absurd (true≢false (sym h))
+of_within b (fin s m e) h = leb-true (m * up e) (2 ^ b * down e) h
 
 is_within : (b : ℕ) (x : Float) → Within b x → within b x ≡ true
 unfolding within
@@ -299,27 +299,27 @@ is_within b (inf s) h = absurd h
 is_within b (fin s m e) h = le-leb (m * up e) (2 ^ b * down e) h
 
 module _ (x : Float) where
-  pub both-tests : le x (of_bits binary32 0x4E800000) ≡ true → le (neg (of_bits binary32 0x4E800000)) x ≡ within 30 x
-  both-tests h = go (le (neg limit) x) refl (within 30 x) refl
+  pub both_tests : le x (of_bits binary32 0x4E800000) ≡ true → le (neg (of_bits binary32 0x4E800000)) x ≡ within 30 x
+  both_tests h = go (le (neg limit) x) refl (within 30 x) refl
     where
       go : (a : Bool) → le (neg limit) x ≡ a → (b : Bool) → within 30 x ≡ b → a ≡ b
       go true g true w = refl
       go true g false w = sym (is_within 30 x (by_tests x h g)) ∙ w
-      go false g true w = sym g ∙ to-second x (of-within 30 x w)
+      go false g true w = sym g ∙ to-second x (of_within 30 x w)
       go false g false w = refl
 
   pub first-test : le x (of_bits binary32 0x4E800000) ≡ false → false ≡ within 30 x
   first-test h = go (within 30 x) refl
     where
       go : (b : Bool) → within 30 x ≡ b → false ≡ b
-      go true w = sym h ∙ to-first x (of-within 30 x w)
+      go true w = sym h ∙ to-first x (of_within 30 x w)
       go false w = refl
 
-lanes-within : (lanes : List Float) → allWithin 30 lanes ≡ true → All (Within 30) lanes
-unfolding allWithin
+lanes-within : (lanes : List Float) → all_within 30 lanes ≡ true → All (Within 30) lanes
+unfolding all_within
 lanes-within lanes h =
-    all_of (Within 30) lanes nan (λ (i : ℕ) (l : i < length lanes). of-within 30 (get_or lanes i nan) (below.all-at (λ (j : ℕ). within 30 (get_or lanes j nan)) (length lanes) i h l))
+    all_of (Within 30) lanes nan (λ (i : ℕ) (l : i < length lanes). of_within 30 (get_or lanes i nan) (below.all-at (λ (j : ℕ). within 30 (get_or lanes j nan)) (length lanes) i h l))
 
 -- row 10 passes
-pub none-unfit : (lanes : List Float) (dimension n : ℕ) → dimension ≤ 64 → allWithin 30 lanes ≡ true → decide (row10 (nodesApart lanes dimension) n ∷ []) ≡ passed
-none-unfit lanes dimension n few small = all-clear (nodesApart lanes dimension) n n (le_refl n) (λ i j _ _ _ _. apart-fit lanes dimension few (lanes-within lanes small) i j)
+pub none_unfit : (lanes : List Float) (dimension n : ℕ) → dimension ≤ 64 → all_within 30 lanes ≡ true → decide (row10 (nodes_apart lanes dimension) n ∷ []) ≡ passed
+none_unfit lanes dimension n few small = all-clear (nodes_apart lanes dimension) n n (le_refl n) (λ i j _ _ _ _. apart-fit lanes dimension few (lanes-within lanes small) i j)

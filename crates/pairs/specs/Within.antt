@@ -11,5 +11,5 @@ within b (inf s) = false
 within b (fin s m e) = leb (m * up e) (2 ^ b * down e)
 
 -- each of a list is
-unfoldable pub allWithin : ℕ → List Float → Bool
-allWithin b xs = all_below (λ (i : ℕ). within b (get_or xs i nan)) (length xs)
+unfoldable pub all_within : ℕ → List Float → Bool
+all_within b xs = all_below (λ (i : ℕ). within b (get_or xs i nan)) (length xs)

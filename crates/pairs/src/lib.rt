@@ -1,8 +1,8 @@
 // Row 10 of build, begin and iteration: no pair is measured where every lane is so small that no distance can be unfit.
 ghost use Rattle.std.specs.Prelude.{◌≡◌, [], ◌∷◌, ◌*◌, ◌≤◌, length};
-ghost use Rattle.rules.specs.Distance.{nodesApart};
-ghost use Rattle.rules.specs.Refusals.{decide, decisionOf, row10};
-ghost use Rattle.pairs.specs.Within.{within, allWithin};
+ghost use Rattle.rules.specs.Distance.{nodes_apart};
+ghost use Rattle.rules.specs.Refusals.{decide, decision_of, row10};
+ghost use Rattle.pairs.specs.Within.{within, all_within};
 
 use rules::Answer;
 
@@ -18,7 +18,7 @@ fn is_small(x: f32) -> bool
 
 // Whether every lane is; all are looked at, so that the compiler can test several at once.
 fn all_small(lanes: &[f32]) -> bool
-    ensures { result ≡ allWithin 30 lanes.now }
+    ensures { result ≡ all_within 30 lanes.now }
 {
     let mut all = true;
     let mut i: usize = 0;
@@ -34,7 +34,7 @@ fn all_small(lanes: &[f32]) -> bool
 /// Row 10 of build, begin and iteration, as `metrics::first_unfit` gives it.
 pub fn first_unfit(lanes: &[f32], dimension: usize, n: usize) -> Answer
     requires { (length lanes.now ≡ n * dimension) × (n ≤ 4096) }
-    ensures { decisionOf result ≡ decide (row10 (nodesApart lanes.now dimension) n ∷ []) }
+    ensures { decision_of result ≡ decide (row10 (nodes_apart lanes.now dimension) n ∷ []) }
 {
     if dimension <= 64 {
         if all_small(lanes) {

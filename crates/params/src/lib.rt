@@ -1,6 +1,6 @@
 // The parameters of a build (hora's `ssg_params.rs`): the defaults, and a setter for each.
 ghost use Rattle.std.specs.Prelude.{◌≡◌};
-ghost use Rattle.params.specs.Params.{defaults, withThreshold, withInitK, withIndexSize, withNeighborNeighborSize};
+ghost use Rattle.params.specs.Params.{defaults, with_threshold, with_init_k, with_index_size, with_neighbor_neighbor_size};
 
 /// The parameters of a build (hora's `SSGParams`): the threshold stands for the angle, and the roots are given.
 #[derive(Drop)]
@@ -26,7 +26,7 @@ impl SsgParams {
 
     /// The parameters with another threshold (hora's `angle`).
     pub fn threshold(mut self, new_threshold: f32) -> Self
-        ensures { result ≡ withThreshold self new_threshold }
+        ensures { result ≡ with_threshold self new_threshold }
     {
         self.threshold = new_threshold;
         self
@@ -34,7 +34,7 @@ impl SsgParams {
 
     /// The parameters with another length of the exact lists (hora's `init_k`).
     pub fn init_k(mut self, new_init_k: usize) -> Self
-        ensures { result ≡ withInitK self new_init_k }
+        ensures { result ≡ with_init_k self new_init_k }
     {
         self.init_k = new_init_k;
         self
@@ -42,7 +42,7 @@ impl SsgParams {
 
     /// The parameters with another length of a row (hora's `index_size`).
     pub fn index_size(mut self, new_index_size: usize) -> Self
-        ensures { result ≡ withIndexSize self new_index_size }
+        ensures { result ≡ with_index_size self new_index_size }
     {
         self.index_size = new_index_size;
         self
@@ -50,7 +50,7 @@ impl SsgParams {
 
     /// The parameters with another limit of two-hop candidates (hora's `neighbor_neighbor_size`).
     pub fn neighbor_neighbor_size(mut self, new_neighbor_neighbor_size: usize) -> Self
-        ensures { result ≡ withNeighborNeighborSize self new_neighbor_neighbor_size }
+        ensures { result ≡ with_neighbor_neighbor_size self new_neighbor_neighbor_size }
     {
         self.neighbor_neighbor_size = new_neighbor_neighbor_size;
         self

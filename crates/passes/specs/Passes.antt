@@ -1,8 +1,8 @@
 -- What the passes count on of the lists of a context in a lent slice. Assumes nothing.
 use Rattle.std.specs.Prelude.{◌≡◌, Bool, true, cond, List, [], ◌∷◌, ◌++◌, map, ℕ, suc, ◌*◌, ◌≤◌, ◌<◌, ltb, length, drop, get_or}
 use Rattle.rules.specs.Loops.{each}
-use Rattle.rules.specs.Descent.{Context, Pair, pair, cross, ownPairs, risingWith, risingPairs}
-use Rattle.rules.specs.DescentPlaces.{membersIn, contextIn}
+use Rattle.rules.specs.Descent.{Context, Pair, pair, cross, own_pairs, rising_with, rising_pairs}
+use Rattle.rules.specs.DescentPlaces.{members_in, context_in}
 use Rattle.lists.specs.All.{All}
 
 -- nodes below n
@@ -18,12 +18,12 @@ pub record Short (n : ℕ) (vs : List ℕ) : Type 0 where
 unfoldable pub joins : Bool → ℕ → ℕ → Bool
 joins rising u v = cond rising (ltb u v) true
 
-unfoldable pub onePair : Bool → ℕ → ℕ → List Pair
-onePair rising u v = cond (joins rising u v) (pair u v ∷ []) []
+unfoldable pub one_pair : Bool → ℕ → ℕ → List Pair
+one_pair rising u v = cond (joins rising u v) (pair u v ∷ []) []
 
 -- a node with each of a list, or with each that is greater
-unfoldable pub rowPairs : Bool → ℕ → List ℕ → List Pair
-rowPairs rising u vs = cond rising (risingWith u vs) (map (pair u) vs)
+unfoldable pub row_pairs : Bool → ℕ → List ℕ → List Pair
+row_pairs rising u vs = cond rising (rising_with u vs) (map (pair u) vs)
 
 -- the place of the first partner of the node at place i: the first of all, or where it meets those behind it its own, or where only rising pairs meet the next
 unfoldable pub first_of : Bool → Bool → ℕ → ℕ
@@ -33,33 +33,33 @@ pub record Within (behind rising : Bool) (us vs : List ℕ) : Type 0 where
   pub each : (i : ℕ) → i < length us → first_of behind rising i ≤ length vs
 
 -- each of us with its partners among vs
-unfoldable pub passPairs : Bool → Bool → List ℕ → List ℕ → List Pair
-passPairs behind rising us vs = each (λ (i : ℕ). rowPairs rising (get_or us i 0) (drop (first_of behind rising i) vs)) (length us)
+unfoldable pub pass_pairs : Bool → Bool → List ℕ → List ℕ → List Pair
+pass_pairs behind rising us vs = each (λ (i : ℕ). row_pairs rising (get_or us i 0) (drop (first_of behind rising i) vs)) (length us)
 
 -- the first three of the seven passes, and the last four
-unfoldable pub earlyPairs : List ℕ → List ℕ → List ℕ → List Pair
-earlyPairs new old reversed-new = ownPairs new ++ (cross new old ++ risingPairs reversed-new)
+unfoldable pub early_pairs : List ℕ → List ℕ → List ℕ → List Pair
+early_pairs new old reversed_new = own_pairs new ++ (cross new old ++ rising_pairs reversed_new)
 
-unfoldable pub latePairs : List ℕ → List ℕ → List ℕ → List ℕ → List Pair
-latePairs new old reversed-new reversed-old =
-    cross reversed-new reversed-old ++ (cross new reversed-old ++ (cross new reversed-new ++ cross old reversed-new))
+unfoldable pub late_pairs : List ℕ → List ℕ → List ℕ → List ℕ → List Pair
+late_pairs new old reversed_new reversed_old =
+    cross reversed_new reversed_old ++ (cross new reversed_old ++ (cross new reversed_new ++ cross old reversed_new))
 
 -- a context list at the front of words: its length, and room for 64
 pub record Members (n : ℕ) (us : List ℕ) : Type 0 where
   pub room : 65 ≤ length us
   pub few : get_or us 0 0 ≤ 64
-  pub below : Below n (membersIn us)
+  pub below : Below n (members_in us)
 
 -- the four lists of a context
 pub record Contexted (n : ℕ) (us : List ℕ) : Type 0 where
   pub new : Members n us
   pub old : Members n (drop 65 us)
-  pub reversed-new : Members n (drop 130 us)
-  pub reversed-old : Members n (drop 195 us)
+  pub reversed_new : Members n (drop 130 us)
+  pub reversed_old : Members n (drop 195 us)
 
 -- the contexts of all nodes, 260 words each
-unfoldable pub contextsIn : ℕ → List ℕ → List Context
-contextsIn n us = each (λ (i : ℕ). contextIn (drop (260 * i) us) ∷ []) n
+unfoldable pub contexts_in : ℕ → List ℕ → List Context
+contexts_in n us = each (λ (i : ℕ). context_in (drop (260 * i) us) ∷ []) n
 
 pub record ManyContexted (n : ℕ) (us : List ℕ) : Type 0 where
   pub each : (i : ℕ) → i < n → Contexted n (drop (260 * i) us)
@@ -67,5 +67,5 @@ pub record ManyContexted (n : ℕ) (us : List ℕ) : Type 0 where
 
 -- the members as a part of the words
 pub record MembersOf (n : ℕ) (us : List ℕ) (vs : List ℕ) : Type 0 where
-  pub list : vs ≡ membersIn us
+  pub list : vs ≡ members_in us
   pub short : Short n vs

@@ -3,9 +3,9 @@ ghost use Rattle.std.specs.Prelude.{◌≡◌, ◌*◌, ◌≤◌, ◌<◌, leng
 ghost use Rattle.rules.specs.Loops.{through};
 ghost use Rattle.rules.specs.Distance.{between};
 ghost use Rattle.rules.specs.Descent.{meet, meet_all, cross, passes};
-ghost use Rattle.rules.specs.DescentPlaces.{contextIn};
+ghost use Rattle.rules.specs.DescentPlaces.{context_in};
 ghost use Rattle.meets.specs.Meets.{Game, Does};
-ghost use Rattle.passes.specs.Passes.{Short, Members, MembersOf, Contexted, joins, onePair, rowPairs, first_of, Within, passPairs, earlyPairs, latePairs, contextsIn, ManyContexted};
+ghost use Rattle.passes.specs.Passes.{Short, Members, MembersOf, Contexted, joins, one_pair, row_pairs, first_of, Within, pass_pairs, early_pairs, late_pairs, contexts_in, ManyContexted};
 
 use rules::NodeId;
 
@@ -33,7 +33,7 @@ fn meet_one(
     cost: usize,
 ) -> usize
     requires { Game dimension n k lanes.now words.old floats.old × (u.0 < n) × (v.0 < n) × (cost ≤ 1099511627776) }
-    ensures { Does n k 1 (through (meet (between lanes.now dimension) n k) (onePair rising u.0 v.0)) words.old floats.old cost words.new floats.new result }
+    ensures { Does n k 1 (through (meet (between lanes.now dimension) n k) (one_pair rising u.0 v.0)) words.old floats.old cost words.new floats.new result }
 {
     if joins(rising, u, v) {
         return meets::meet(lanes, dimension, n, k, u, v, words, floats, cost);
@@ -55,7 +55,7 @@ fn meet_row(
     cost: usize,
 ) -> usize
     requires { Game dimension n k lanes.now words.old floats.old × (u.0 < n) × Short n vs.now × (cost ≤ 1073741824) }
-    ensures { Does n k (length vs.now) (through (meet (between lanes.now dimension) n k) (rowPairs rising u.0 vs.now)) words.old floats.old cost words.new floats.new result }
+    ensures { Does n k (length vs.now) (through (meet (between lanes.now dimension) n k) (row_pairs rising u.0 vs.now)) words.old floats.old cost words.new floats.new result }
 {
     let mut total = cost;
     let mut i: usize = 0;
@@ -96,7 +96,7 @@ fn pass(
     cost: usize,
 ) -> usize
     requires { Game dimension n k lanes.now words.old floats.old × Short n us.now × Short n vs.now × Within behind rising us.now vs.now × (cost ≤ 536870912) }
-    ensures { Does n k 4096 (through (meet (between lanes.now dimension) n k) (passPairs behind rising us.now vs.now)) words.old floats.old cost words.new floats.new result }
+    ensures { Does n k 4096 (through (meet (between lanes.now dimension) n k) (pass_pairs behind rising us.now vs.now)) words.old floats.old cost words.new floats.new result }
 {
     let mut total = cost;
     let mut i: usize = 0;
@@ -154,7 +154,7 @@ fn early_passes(
     cost: usize,
 ) -> usize
     requires { Game dimension n k lanes.now words.old floats.old × Short n new.now × Short n old.now × Short n reversed_new.now × (cost ≤ 402653184) }
-    ensures { Does n k 12288 (through (meet (between lanes.now dimension) n k) (earlyPairs new.now old.now reversed_new.now)) words.old floats.old cost words.new floats.new result }
+    ensures { Does n k 12288 (through (meet (between lanes.now dimension) n k) (early_pairs new.now old.now reversed_new.now)) words.old floats.old cost words.new floats.new result }
 {
     let a = pass(
         lanes, dimension, n, k, true, false, new, new, words, floats, cost,
@@ -190,7 +190,7 @@ fn late_passes(
     cost: usize,
 ) -> usize
     requires { Game dimension n k lanes.now words.old floats.old × Short n new.now × Short n old.now × Short n reversed_new.now × Short n reversed_old.now × (cost ≤ 402653184) }
-    ensures { Does n k 16384 (through (meet (between lanes.now dimension) n k) (latePairs new.now old.now reversed_new.now reversed_old.now)) words.old floats.old cost words.new floats.new result }
+    ensures { Does n k 16384 (through (meet (between lanes.now dimension) n k) (late_pairs new.now old.now reversed_new.now reversed_old.now)) words.old floats.old cost words.new floats.new result }
 {
     let a = cross(
         lanes,
@@ -230,7 +230,7 @@ pub fn passes(
     cost: usize,
 ) -> usize
     requires { Game dimension n k lanes.now words.old floats.old × Contexted n context.now × (cost ≤ 268435456) }
-    ensures { Does n k 28672 (through (meet (between lanes.now dimension) n k) (passes (contextIn context.now))) words.old floats.old cost words.new floats.new result }
+    ensures { Does n k 28672 (through (meet (between lanes.now dimension) n k) (passes (context_in context.now))) words.old floats.old cost words.new floats.new result }
 {
     let new = members_at(context, n, 0);
     let old = members_at(context, n, 65);
@@ -274,7 +274,7 @@ pub fn meet_all(
     floats: &mut [f32],
 ) -> usize
     requires { Game dimension n k lanes.now words.old floats.old × ManyContexted n contexts.now }
-    ensures { Does n k (n * 28672) (meet_all (between lanes.now dimension) n k (contextsIn n contexts.now)) words.old floats.old 0 words.new floats.new result }
+    ensures { Does n k (n * 28672) (meet_all (between lanes.now dimension) n k (contexts_in n contexts.now)) words.old floats.old 0 words.new floats.new result }
 {
     let mut total: usize = 0;
     let mut i: usize = 0;

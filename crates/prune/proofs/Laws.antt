@@ -15,7 +15,7 @@ use Rattle.rules.specs.declared.Neighbor.{Neighbor}
 use Rattle.rules.specs.Loops.{through, any_of}
 use Rattle.rules.specs.Lists.{neighbor, node_of, entries, sort}
 use Rattle.rules.specs.Build.{cosine, occludes, keep, choose, Between}
-use Rattle.rules.proofs.Loops.{through-end, any-end}
+use Rattle.rules.proofs.Loops.{through-end, any_end}
 use Rattle.lists.proofs.Slices.{length-entries, drop-entries, entries-suc, entries-same}
 use Rattle.lists.proofs.Plain.{drop-later, all_append, all-sort}
 use Rattle.kernels.specs.Eight.{held, Held}
@@ -25,9 +25,9 @@ use Rattle.prune.specs.Chosen.{AllBelow, FourStand, Kept, Chosen}
 -- ---- one entry against another
 
 module _ (d : Between) (t : Float) (b : Bool) (p r : Neighbor) where
-  pub occludes-equal : b ≡ true → node_of p ≡ node_of r → true ≡ occludes d t b p r
+  pub occludes_equal : b ≡ true → node_of p ≡ node_of r → true ≡ occludes d t b p r
   unfolding occludes
-  occludes-equal e h = rw (e, eq-eqb (node_of p) (node_of r) h)
+  occludes_equal e h = rw (e, eq-eqb (node_of p) (node_of r) h)
 
   -- where no equal node occludes, the cosine decides
   pub occludes-other : (node_of p ≡ node_of r → ⊥) → lt t (cosine p.distance r.distance (d (node_of p) (node_of r))) ≡ occludes d t b p r
@@ -43,9 +43,9 @@ module _ (d : Between) (t : Float) (b : Bool) (p r : Neighbor) where
   unfolding occludes
   occludes-apart e h = rw h
 
-  pub occludes-plain : b ≡ false → lt t (cosine p.distance r.distance (d (node_of p) (node_of r))) ≡ occludes d t b p r
+  pub occludes_plain : b ≡ false → lt t (cosine p.distance r.distance (d (node_of p) (node_of r))) ≡ occludes d t b p r
   unfolding occludes
-  occludes-plain e = rw e
+  occludes_plain e = rw e
 
 -- what was asked of an entry by its distance is asked of the entry
 pub stood : (d : Between) (t : Float) (b : Bool) (p : Neighbor) {r : Neighbor} {djk : Float} {s : Bool} (x : Neighbor) → s ≡ occludes (λ (i j : ℕ). djk) t b p r
@@ -75,24 +75,24 @@ below-sort n es E = all-sort (λ (e : Neighbor). node_of e < n) es E
 -- ---- whether a test holds of one of the entries of two slices: at place i
 
 module _ (p : Neighbor → Bool) (ns : List ℕ) (ds : List Float) (len i : ℕ) (a : ℕ) (d : Float) (h : len ≤ length ns) (k : len ≤ length ds) where
-  pub any-entry-here : i < len → p (neighbor (get_or ns i a) (get_or ds i d)) ≡ true → any_of p (drop i (entries len ns ds)) ≡ true
+  pub any_entry-here : i < len → p (neighbor (get_or ns i a) (get_or ds i d)) ≡ true → any_of p (drop i (entries len ns ds)) ≡ true
   unfolding any_of
-  any-entry-here l e = rw (drop-entries len i ns ds a d l h k, e)
+  any_entry-here l e = rw (drop-entries len i ns ds a d l h k, e)
 
-  pub any-entry-turn : i < len → p (neighbor (get_or ns i a) (get_or ds i d)) ≡ false → any_of p (drop (i + 1) (entries len ns ds)) ≡ any_of p (drop i (entries len ns ds))
+  pub any_entry_turn : i < len → p (neighbor (get_or ns i a) (get_or ds i d)) ≡ false → any_of p (drop (i + 1) (entries len ns ds)) ≡ any_of p (drop i (entries len ns ds))
   unfolding any_of
-  any-entry-turn l e = rw (add-one, drop-entries len i ns ds a d l h k, e)
+  any_entry_turn l e = rw (add-one, drop-entries len i ns ds a d l h k, e)
 
-  pub any-entry-end : len ≤ i → any_of p (drop i (entries len ns ds)) ≡ false
-  any-entry-end l = let long = length-entries len ns ds h k in any-end p (entries len ns ds) i (omega arith)
+  pub any_entry-end : len ≤ i → any_of p (drop i (entries len ns ds)) ≡ false
+  any_entry-end l = let long = length-entries len ns ds h k in any_end p (entries len ns ds) i (omega arith)
 
 -- ---- the same at four places, the last of them again where there are fewer
 
-any-drop : (p : Neighbor → Bool) (xs : List Neighbor) (i : ℕ) → any_of p (drop i xs) ≡ true → any_of p xs ≡ true
+any_drop : (p : Neighbor → Bool) (xs : List Neighbor) (i : ℕ) → any_of p (drop i xs) ≡ true → any_of p xs ≡ true
 unfolding any_of
-any-drop p xs zero e = e
-any-drop p [] (suc i) e = e
-any-drop p (x ∷ xs) (suc i) e = rw (any-drop p xs i e) (go (p x))
+any_drop p xs zero e = e
+any_drop p [] (suc i) e = e
+any_drop p (x ∷ xs) (suc i) e = rw (any_drop p xs i e) (go (p x))
   where
     go : (b : Bool) → (b || true) ≡ true
     go true = refl
@@ -103,7 +103,7 @@ module _ (p : Neighbor → Bool) (ns : List ℕ) (ds : List Float) (len : ℕ) (
   At i = neighbor (get_or ns i 0) (get_or ds i nan)
 
   some-entry : (i : ℕ) → i < len → p (At i) ≡ true → any_of p (entries len ns ds) ≡ true
-  some-entry i l e = any-drop p (entries len ns ds) i (any-entry-here p ns ds len i 0 nan h k l e)
+  some-entry i l e = any_drop p (entries len ns ds) i (any_entry-here p ns ds len i 0 nan h k l e)
 
   past : (i j : ℕ) → j ≡ held len i → p (At j) ≡ false → any_of p (drop (i + 1) (entries len ns ds)) ≡ any_of p (drop i (entries len ns ds))
   past i j q e = go (ltb i len) refl
@@ -111,17 +111,17 @@ module _ (p : Neighbor → Bool) (ns : List ℕ) (ds : List Float) (len : ℕ) (
       go : (b : Bool) → ltb i len ≡ b → any_of p (drop (i + 1) (entries len ns ds)) ≡ any_of p (drop i (entries len ns ds))
       go true f =
           let l = ltb-true i len f in
-          any-entry-turn p ns ds len i 0 nan h k l (ap (λ (m : ℕ). p (At m)) (sym (q ∙ held_below len i l)) ∙ e)
+          any_entry_turn p ns ds len i 0 nan h k l (ap (λ (m : ℕ). p (At m)) (sym (q ∙ held_below len i l)) ∙ e)
       go false f =
           let l = ltb-false i len f in
-          any-entry-end p ns ds len (i + 1) 0 nan h k (omega arith) ∙ sym (any-entry-end p ns ds len i 0 nan h k l)
+          any_entry-end p ns ds len (i + 1) 0 nan h k (omega arith) ∙ sym (any_entry-end p ns ds len i 0 nan h k l)
 
-  pub four-yes : (i j : ℕ) (r : Bool) → j < len → p (At j) ≡ true → r ≡ true → FourStand p ns ds len i r
-  four-yes i j r l e f = record { yes = λ g. some-entry j l e; no = λ g. absurd (true≢false (sym f ∙ g)) }
+  pub four_yes : (i j : ℕ) (r : Bool) → j < len → p (At j) ≡ true → r ≡ true → FourStand p ns ds len i r
+  four_yes i j r l e f = record { yes = λ g. some-entry j l e; no = λ g. absurd (true≢false (sym f ∙ g)) }
 
-  pub four-last : (i a b c : ℕ) (r : Bool) → i < len → Held len (i + 1) a → Held len (i + 2) b → Held len (i + 3) c
+  pub four_last : (i a b c : ℕ) (r : Bool) → i < len → Held len (i + 1) a → Held len (i + 2) b → Held len (i + 3) c
       → p (At i) ≡ false → p (At a) ≡ false → p (At b) ≡ false → r ≡ p (At c) → FourStand p ns ds len i r
-  four-last i a b c r l A B C e f g q =
+  four_last i a b c r l A B C e f g q =
       record {
         yes = λ y. some-entry c C.below (sym q ∙ y);
         no = λ y.
@@ -157,14 +157,14 @@ module _ (f : Neighbor → Neighbor → Bool) (k : ℕ) where
   below-choose n es E = below-through n es [] E tt
 
   -- once k are kept no more is
-  pub keep-full : (p : Neighbor) (xs : List Neighbor) → k ≤ length xs → keep f k p xs ≡ xs
+  pub keep_full : (p : Neighbor) (xs : List Neighbor) → k ≤ length xs → keep f k p xs ≡ xs
   unfolding keep
-  keep-full p xs h = rw (le-ltb (length xs) k h)
+  keep_full p xs h = rw (le-ltb (length xs) k h)
 
-  pub through-full : (es xs : List Neighbor) → k ≤ length xs → through (keep f k) es xs ≡ xs
+  pub through_full : (es xs : List Neighbor) → k ≤ length xs → through (keep f k) es xs ≡ xs
   unfolding through
-  through-full [] xs h = refl
-  through-full (e ∷ es) xs h = ap (through (keep f k) es) (keep-full e xs h) ∙ through-full es xs h
+  through_full [] xs h = refl
+  through_full (e ∷ es) xs h = ap (through (keep f k) es) (keep_full e xs h) ∙ through_full es xs h
 
   length-keep : (p : Neighbor) (xs : List Neighbor) → length xs ≤ length (keep f k p xs)
   unfolding keep
@@ -190,24 +190,24 @@ module _ (f : Neighbor → Neighbor → Bool) (k : ℕ) where
   unfolding keep
   keep-more p xs h e = rw (lt-ltb (length xs) k h, e)
 
-  pub keep-none : (p : Neighbor) (xs : List Neighbor) → length xs < k → any_of (f p) xs ≡ true → keep f k p xs ≡ xs
+  pub keep_none : (p : Neighbor) (xs : List Neighbor) → length xs < k → any_of (f p) xs ≡ true → keep f k p xs ≡ xs
   unfolding keep
-  keep-none p xs h e = rw (lt-ltb (length xs) k h, e)
+  keep_none p xs h e = rw (lt-ltb (length xs) k h, e)
 
 -- ---- one p, in the slices
 
 module _ {f : Neighbor → Neighbor → Bool} {k : ℕ} {p : Neighbor} {ns : List ℕ} {ds : List Float} {kept : ℕ} (h : k ≤ length ns) (g : k ≤ length ds) (l : kept < k) where
-  pub kept-none : any_of (f p) (entries kept ns ds) ≡ true → Kept f k p ns ds kept ns ds kept
-  kept-none e =
+  pub kept_none : any_of (f p) (entries kept ns ds) ≡ true → Kept f k p ns ds kept ns ds kept
+  kept_none e =
       let long = length-entries kept ns ds (omega arith) (omega arith) in
       record {
-        list = sym (keep-none f k p (entries kept ns ds) (omega arith) e);
+        list = sym (keep_none f k p (entries kept ns ds) (omega arith) e);
         more = omega arith;
         within = omega arith;
-        nodes-rest = refl;
-        dists-rest = refl;
-        nodes-long = refl;
-        dists-long = refl;
+        nodes_rest = refl;
+        dists_rest = refl;
+        nodes_long = refl;
+        dists_long = refl;
       }
 
   pub kept_more : any_of (f p) (entries kept ns ds) ≡ false → Kept f k p ns ds kept (set ns kept (node_of p)) (set ds kept p.distance) (kept + 1)
@@ -230,10 +230,10 @@ module _ {f : Neighbor → Neighbor → Bool} {k : ℕ} {p : Neighbor} {ns : Lis
             ∙ sym (keep-more f k p (entries kept ns ds) (omega arith) e));
         more = omega arith;
         within = omega arith;
-        nodes-rest = drop-set-lt (kept + 1) ns kept (node_of p) (omega arith);
-        dists-rest = drop-set-lt (kept + 1) ds kept p.distance (omega arith);
-        nodes-long = length-set ns kept (node_of p);
-        dists-long = length-set ds kept p.distance;
+        nodes_rest = drop-set-lt (kept + 1) ns kept (node_of p) (omega arith);
+        dists_rest = drop-set-lt (kept + 1) ds kept p.distance (omega arith);
+        nodes_long = length-set ns kept (node_of p);
+        dists_long = length-set ds kept p.distance;
       }
 
 -- ---- the loop: to go on with the entries that are left gives the whole choice
@@ -242,20 +242,20 @@ pub record Choosing (f : Neighbor → Neighbor → Bool) (n k len : ℕ) (fs : L
   pub within : kept ≤ k
   pub list : through (keep f k) (drop i (entries len fs gs)) (entries kept ns ds) ≡ choose f k (entries len fs gs)
   pub below : AllBelow n (entries kept ns ds)
-  pub nodes-rest : drop kept ns ≡ drop kept ns₀
-  pub dists-rest : drop kept ds ≡ drop kept ds₀
-  pub nodes-long : length ns ≡ length ns₀
-  pub dists-long : length ds ≡ length ds₀
+  pub nodes_rest : drop kept ns ≡ drop kept ns₀
+  pub dists_rest : drop kept ds ≡ drop kept ds₀
+  pub nodes_long : length ns ≡ length ns₀
+  pub dists_long : length ds ≡ length ds₀
 
-pub choosing-none : {f : Neighbor → Neighbor → Bool} {n k len : ℕ} {fs : List ℕ} {gs : List Float} {ns : List ℕ} {ds : List Float} → Choosing f n k len fs gs ns ds ns ds 0 0
+pub choosing_none : {f : Neighbor → Neighbor → Bool} {n k len : ℕ} {fs : List ℕ} {gs : List Float} {ns : List ℕ} {ds : List Float} → Choosing f n k len fs gs ns ds ns ds 0 0
 unfolding choose entries
-choosing-none = record { within = zero-le; list = refl; below = tt; nodes-rest = refl; dists-rest = refl; nodes-long = refl; dists-long = refl }
+choosing_none = record { within = zero-le; list = refl; below = tt; nodes_rest = refl; dists_rest = refl; nodes_long = refl; dists_long = refl }
 
 module _ {f : Neighbor → Neighbor → Bool} {n k len : ℕ} {fs : List ℕ} {gs : List Float} {ns₀ : List ℕ} {ds₀ : List Float} {ns : List ℕ} {ds : List Float} {kept i : ℕ} (inv : Choosing f n k len fs gs ns₀ ds₀ ns ds kept i) where
-  pub choosing-turn : len ≤ length fs → len ≤ length gs → {ns' : List ℕ} {ds' : List Float} {r : ℕ} (a : ℕ) (d : Float) → i < len → AllBelow n (entries len fs gs)
+  pub choosing_turn : len ≤ length fs → len ≤ length gs → {ns' : List ℕ} {ds' : List Float} {r : ℕ} (a : ℕ) (d : Float) → i < len → AllBelow n (entries len fs gs)
       → Kept f k (neighbor (get_or fs i a) (get_or gs i d)) ns ds kept ns' ds' r → Choosing f n k len fs gs ns₀ ds₀ ns' ds' r (i + 1)
   unfolding through
-  choosing-turn h g {ns'} {ds'} {r} a d l all made =
+  choosing_turn h g {ns'} {ds'} {r} a d l all made =
       let p = neighbor (get_or fs i a) (get_or gs i d) in
       let es = entries len fs gs in
       record {
@@ -265,36 +265,36 @@ module _ {f : Neighbor → Neighbor → Bool} {n k len : ℕ} {fs : List ℕ} {g
             (ap (through (keep f k) (drop (suc i) es)) made.list
             ∙ ap (λ (l : List Neighbor). through (keep f k) l (entries kept ns ds)) (sym (drop-entries len i fs gs a d l h g)) ∙ inv.list);
         below = rw made.list (below-keep f k n p (entries kept ns ds) (below-entry n len i fs gs a all l h g) inv.below);
-        nodes-rest = made.nodes-rest ∙ drop-later kept r ns ns₀ made.more inv.nodes-rest;
-        dists-rest = made.dists-rest ∙ drop-later kept r ds ds₀ made.more inv.dists-rest;
-        nodes-long = made.nodes-long ∙ inv.nodes-long;
-        dists-long = made.dists-long ∙ inv.dists-long;
+        nodes_rest = made.nodes_rest ∙ drop-later kept r ns ns₀ made.more inv.nodes_rest;
+        dists_rest = made.dists_rest ∙ drop-later kept r ds ds₀ made.more inv.dists_rest;
+        nodes_long = made.nodes_long ∙ inv.nodes_long;
+        dists_long = made.dists_long ∙ inv.dists_long;
       }
 
   chosen_of : k ≤ length ns₀ → k ≤ length ds₀ → entries kept ns ds ≡ choose f k (entries len fs gs) → Chosen f k (entries len fs gs) ns₀ ds₀ ns ds kept
   chosen_of h g e =
       let w = inv.within in
-      let u = inv.nodes-long in
-      let v = inv.dists-long in
+      let u = inv.nodes_long in
+      let v = inv.dists_long in
       record {
         list = e;
         count = sym (length-entries kept ns ds (omega arith) (omega arith)) ∙ ap length e;
         within = w;
-        nodes-rest = inv.nodes-rest;
-        dists-rest = inv.dists-rest;
-        nodes-long = u;
-        dists-long = v;
+        nodes_rest = inv.nodes_rest;
+        dists_rest = inv.dists_rest;
+        nodes_long = u;
+        dists_long = v;
       }
 
-  pub choosing-full : k ≤ length ns₀ → k ≤ length ds₀ → k ≤ kept → Chosen f k (entries len fs gs) ns₀ ds₀ ns ds kept
-  choosing-full h g l =
+  pub choosing_full : k ≤ length ns₀ → k ≤ length ds₀ → k ≤ kept → Chosen f k (entries len fs gs) ns₀ ds₀ ns ds kept
+  choosing_full h g l =
       let w = inv.within in
-      let u = inv.nodes-long in
-      let v = inv.dists-long in
+      let u = inv.nodes_long in
+      let v = inv.dists_long in
       let long = length-entries kept ns ds (omega arith) (omega arith) in
-      chosen_of h g (sym (through-full f k (drop i (entries len fs gs)) (entries kept ns ds) (omega arith)) ∙ inv.list)
+      chosen_of h g (sym (through_full f k (drop i (entries len fs gs)) (entries kept ns ds) (omega arith)) ∙ inv.list)
 
-  pub choosing-end : len ≤ length fs → len ≤ length gs → k ≤ length ns₀ → k ≤ length ds₀ → len ≤ i → Chosen f k (entries len fs gs) ns₀ ds₀ ns ds kept
-  choosing-end p q h g l =
+  pub choosing_end : len ≤ length fs → len ≤ length gs → k ≤ length ns₀ → k ≤ length ds₀ → len ≤ i → Chosen f k (entries len fs gs) ns₀ ds₀ ns ds kept
+  choosing_end p q h g l =
       let long = length-entries len fs gs p q in
       chosen_of h g (sym (through-end (keep f k) (entries len fs gs) i (entries kept ns ds) (omega arith)) ∙ inv.list)

@@ -16,21 +16,21 @@ pub record FourStand (test : Neighbor → Bool) (ns : List ℕ) (ds : List Float
   pub no : r ≡ false → any_of test (drop (i + 4) (entries kept ns ds)) ≡ any_of test (drop i (entries kept ns ds))
 
 -- the first r places after one p, where the first kept were kept before
-pub record Kept (occluded : Neighbor → Neighbor → Bool) (index-size : ℕ) (p : Neighbor) (ns : List ℕ) (ds : List Float) (kept : ℕ) (ns' : List ℕ) (ds' : List Float) (r : ℕ) : Type 0 where
-  pub list : entries r ns' ds' ≡ keep occluded index-size p (entries kept ns ds)
+pub record Kept (occluded : Neighbor → Neighbor → Bool) (index_size : ℕ) (p : Neighbor) (ns : List ℕ) (ds : List Float) (kept : ℕ) (ns' : List ℕ) (ds' : List Float) (r : ℕ) : Type 0 where
+  pub list : entries r ns' ds' ≡ keep occluded index_size p (entries kept ns ds)
   pub more : kept ≤ r
-  pub within : r ≤ index-size
-  pub nodes-rest : drop r ns' ≡ drop r ns
-  pub dists-rest : drop r ds' ≡ drop r ds
-  pub nodes-long : length ns' ≡ length ns
-  pub dists-long : length ds' ≡ length ds
+  pub within : r ≤ index_size
+  pub nodes_rest : drop r ns' ≡ drop r ns
+  pub dists_rest : drop r ds' ≡ drop r ds
+  pub nodes_long : length ns' ≡ length ns
+  pub dists_long : length ds' ≡ length ds
 
 -- the first r places hold the chosen of es, and no other place is changed
-pub record Chosen (occluded : Neighbor → Neighbor → Bool) (index-size : ℕ) (es : List Neighbor) (ns : List ℕ) (ds : List Float) (ns' : List ℕ) (ds' : List Float) (r : ℕ) : Type 0 where
-  pub list : entries r ns' ds' ≡ choose occluded index-size es
-  pub count : r ≡ length (choose occluded index-size es)
-  pub within : r ≤ index-size
-  pub nodes-rest : drop r ns' ≡ drop r ns
-  pub dists-rest : drop r ds' ≡ drop r ds
-  pub nodes-long : length ns' ≡ length ns
-  pub dists-long : length ds' ≡ length ds
+pub record Chosen (occluded : Neighbor → Neighbor → Bool) (index_size : ℕ) (es : List Neighbor) (ns : List ℕ) (ds : List Float) (ns' : List ℕ) (ds' : List Float) (r : ℕ) : Type 0 where
+  pub list : entries r ns' ds' ≡ choose occluded index_size es
+  pub count : r ≡ length (choose occluded index_size es)
+  pub within : r ≤ index_size
+  pub nodes_rest : drop r ns' ≡ drop r ns
+  pub dists_rest : drop r ds' ≡ drop r ds
+  pub nodes_long : length ns' ≡ length ns
+  pub dists_long : length ds' ≡ length ds

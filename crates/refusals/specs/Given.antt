@@ -3,7 +3,7 @@ use Rattle.std.specs.Prelude.{ℕ, cond, List, ◌++◌, map, length, drop, ◌=
 use Rattle.std.specs.Float.{nan}
 use Rattle.cases.specs.declared.Cursor.{Cursor}
 use Rattle.cases.specs.declared.Size.{Size}
-use Rattle.cases.specs.Text.{size_at, wordsAt, behind, float_of}
+use Rattle.cases.specs.Text.{size_at, words_at, behind, float_of}
 
 -- The largest word stands for the largest number.
 unfoldable pub wide_of : ℕ → ℕ
@@ -15,12 +15,12 @@ bits_of bits = cond (bits == 0x7FC00000) nan (float_of bits)
 
 -- The next n numbers as the bits of floats
 unfoldable pub lanes_at : ℕ → List ℕ → Cursor → List Float
-lanes_at n text c = map bits_of (wordsAt n text c)
+lanes_at n text c = map bits_of (words_at n text c)
 
 -- A run after its length, which is at most `most`: how many, and the place behind
 unfoldable pub run_at : ℕ → List ℕ → Cursor → Size
 run_at most text c = let s = size_at most text c in record { value = s.value; cursor = behind s.value text s.cursor }
 
 -- The slice whose first places the run is read to, `listed` as words or as floats
-unfoldable pub runIn : {A : Type 0} → (ℕ → List ℕ → Cursor → List A) → List ℕ → Cursor → List A → List A
-runIn listed text c out = let s = size_at (length out) text c in listed s.value text s.cursor ++ drop s.value out
+unfoldable pub run_in : {A : Type 0} → (ℕ → List ℕ → Cursor → List A) → List ℕ → Cursor → List A → List A
+run_in listed text c out = let s = size_at (length out) text c in listed s.value text s.cursor ++ drop s.value out

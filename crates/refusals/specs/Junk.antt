@@ -2,7 +2,7 @@
 use Rattle.std.specs.Prelude.{ℕ, zero, suc, ◌+◌, ◌%◌, ◌^◌, Bool, true, false, cond, not, List, [], ◌∷◌, ◌==◌, from_bits, nat_lt, Float}
 use Rattle.std.specs.Float.{binary32}
 use Rattle.std.specs.Float.Ieee.{add, ne}
-use Rattle.replays.specs.Compare.{holdsOnly, allZero}
+use Rattle.replays.specs.Compare.{holds_only, all_zero}
 use Rattle.refusals.specs.declared.Left.{Left}
 use Rattle.refusals.specs.declared.Left.TheVariants.{Untouched, Zeroed, Written}
 
@@ -19,35 +19,35 @@ module _ {A : Type 0} (next : A → A) where
       let rest = stands differs from (suc i) (next v) xs in
       cond (nat_lt i from) rest (cond (differs x v) false rest)
 
-abbrev pub nextWord : ℕ → ℕ
-nextWord v = (v + 1) % 2 ^ 32
+abbrev pub next_word : ℕ → ℕ
+next_word v = (v + 1) % 2 ^ 32
 
-abbrev pub nextFloat : Float → Float
-nextFloat v = add binary32 v (from_bits binary32 0x3F800000)
+abbrev pub next_float : Float → Float
+next_float v = add binary32 v (from_bits binary32 0x3F800000)
 
 abbrev pub differs : ℕ → ℕ → Bool
 differs x y = not (x == y)
 
-abbrev pub wordsStand : ℕ → ℕ → ℕ → List ℕ → Bool
-wordsStand from i v xs = stands nextWord differs from i v xs
+abbrev pub words_stand : ℕ → ℕ → ℕ → List ℕ → Bool
+words_stand from i v xs = stands next_word differs from i v xs
 
-abbrev pub floatsStand : ℕ → Float → List Float → Bool
-floatsStand i v xs = stands nextFloat ne 0 i v xs
+abbrev pub floats_stand : ℕ → Float → List Float → Bool
+floats_stand i v xs = stands next_float ne 0 i v xs
 
 -- What the first place of each scratch slice holds: the float is 1.5
-abbrev pub junkWord : ℕ
-junkWord = 0xEF000000
+abbrev pub junk_word : ℕ
+junk_word = 0xEF000000
 
-abbrev pub junkFloat : Float
-junkFloat = from_bits binary32 0x3FC00000
+abbrev pub junk_float : Float
+junk_float = from_bits binary32 0x3FC00000
 
 -- Whether both scratch slices hold what they were filled with
-unfoldable pub scratchStands : List ℕ → List Float → Bool
-scratchStands words floats = cond (wordsStand 0 0 junkWord words) (floatsStand 0 junkFloat floats) false
+unfoldable pub scratch_stands : List ℕ → List Float → Bool
+scratch_stands words floats = cond (words_stand 0 0 junk_word words) (floats_stand 0 junk_float floats) false
 
 -- .. or zero in every place
-unfoldable pub scratchZero : List ℕ → List Float → Bool
-scratchZero words floats = cond (holdsOnly 0 words) (allZero floats) false
+unfoldable pub scratch_zero : List ℕ → List Float → Bool
+scratch_zero words floats = cond (holds_only 0 words) (all_zero floats) false
 
 unfoldable pub left_of : List ℕ → List Float → Left
-left_of words floats = cond (scratchStands words floats) Untouched (cond (scratchZero words floats) Zeroed Written)
+left_of words floats = cond (scratch_stands words floats) Untouched (cond (scratch_zero words floats) Zeroed Written)

@@ -1,10 +1,10 @@
 // The common ground of the refusal tests: a case's numbers and runs, junk in lent places, what became of it after a call, and the parts of a line.
 ghost use Rattle.std.specs.Prelude.{◌≡◌, ◌≤◌, length, take};
-ghost use Rattle.cases.specs.Text.{wordsAt, behind};
+ghost use Rattle.cases.specs.Text.{words_at, behind};
 ghost use Rattle.pages.specs.Page.{labelled, Puts};
-ghost use Rattle.refusals.specs.Texts.{beforePlace, nextColumn, refusalText, graphText, leftText, wordsText, endText};
-ghost use Rattle.refusals.specs.Junk.{rising, nextWord, nextFloat, wordsStand, floatsStand, junkWord, junkFloat, scratchStands, scratchZero, left_of};
-ghost use Rattle.refusals.specs.Given.{wide_of, bits_of, lanes_at, run_at, runIn};
+ghost use Rattle.refusals.specs.Texts.{before_place, next_column, refusal_text, graph_text, left_text, words_text, end_text};
+ghost use Rattle.refusals.specs.Junk.{rising, next_word, next_float, words_stand, floats_stand, junk_word, junk_float, scratch_stands, scratch_zero, left_of};
+ghost use Rattle.refusals.specs.Given.{wide_of, bits_of, lanes_at, run_at, run_in};
 
 use cases::{Cursor, Size};
 use rules::Refusal;
@@ -47,7 +47,7 @@ pub fn float_of(bits: u32) -> f32
 pub fn read_run(text: &[u8], c: Cursor, out: &mut [u32]) -> Size
     ensures value_in_bounds { result.value ≤ length out.new }
     ensures value { result ≡ run_at (length out.old) text.now c }
-    ensures out_after { out.new ≡ runIn wordsAt text.now c out.old }
+    ensures out_after { out.new ≡ run_in words_at text.now c out.old }
 {
     let count = cases::read_size(text, c, out.len());
     let long = count.value;
@@ -78,7 +78,7 @@ fn lanes(text: &[u8], c: Cursor, out: &mut [f32]) -> Cursor
 pub fn read_lanes(text: &[u8], c: Cursor, out: &mut [f32]) -> Size
     ensures value_in_bounds { result.value ≤ length out.new }
     ensures value { result ≡ run_at (length out.old) text.now c }
-    ensures out_after { out.new ≡ runIn lanes_at text.now c out.old }
+    ensures out_after { out.new ≡ run_in lanes_at text.now c out.old }
 {
     let count = cases::read_size(text, c, out.len());
     let long = count.value;
@@ -91,7 +91,7 @@ pub fn read_lanes(text: &[u8], c: Cursor, out: &mut [f32]) -> Size
 
 /// Fills lent words: `first`, and one more in each further place.
 pub fn fill_words(xs: &mut [u32], first: u32)
-    ensures { xs.new ≡ rising nextWord first (length xs.old) }
+    ensures { xs.new ≡ rising next_word first (length xs.old) }
 {
     let mut i: usize = 0;
     let mut v = first;
@@ -104,7 +104,7 @@ pub fn fill_words(xs: &mut [u32], first: u32)
 
 /// Fills lent floats: `first`, and 1.0 more in each further place.
 pub fn fill_floats(xs: &mut [f32], first: f32)
-    ensures { xs.new ≡ rising nextFloat first (length xs.old) }
+    ensures { xs.new ≡ rising next_float first (length xs.old) }
 {
     let mut i: usize = 0;
     let mut v = first;
@@ -117,8 +117,8 @@ pub fn fill_floats(xs: &mut [f32], first: f32)
 
 /// Fills both scratch slices with junk.
 pub fn fill_scratch(words: &mut [u32], floats: &mut [f32])
-    ensures words_after { words.new ≡ rising nextWord junkWord (length words.old) }
-    ensures floats_after { floats.new ≡ rising nextFloat junkFloat (length floats.old) }
+    ensures words_after { words.new ≡ rising next_word junk_word (length words.old) }
+    ensures floats_after { floats.new ≡ rising next_float junk_float (length floats.old) }
 {
     fill_words(words, WORDS);
     fill_floats(floats, FLOATS);
@@ -126,7 +126,7 @@ pub fn fill_scratch(words: &mut [u32], floats: &mut [f32])
 
 /// Whether every place from `from` on is as `fill_words` left it.
 pub fn kept_words(xs: &[u32], from: usize, first: u32) -> bool
-    ensures { result ≡ wordsStand from 0 first xs.now }
+    ensures { result ≡ words_stand from 0 first xs.now }
 {
     let mut i: usize = 0;
     let mut v = first;
@@ -144,7 +144,7 @@ pub fn kept_words(xs: &[u32], from: usize, first: u32) -> bool
 
 // Whether every place is as `fill_floats` left it: equal numbers that are not zero have equal bits, and a NaN equals none.
 fn kept_floats(xs: &[f32], first: f32) -> bool
-    ensures { result ≡ floatsStand 0 first xs.now }
+    ensures { result ≡ floats_stand 0 first xs.now }
 {
     let mut i: usize = 0;
     let mut v = first;
@@ -159,7 +159,7 @@ fn kept_floats(xs: &[f32], first: f32) -> bool
 }
 
 fn kept(words: &[u32], floats: &[f32]) -> bool
-    ensures { result ≡ scratchStands words.now floats.now }
+    ensures { result ≡ scratch_stands words.now floats.now }
 {
     if kept_words(words, 0, WORDS) {
         return kept_floats(floats, FLOATS);
@@ -168,7 +168,7 @@ fn kept(words: &[u32], floats: &[f32]) -> bool
 }
 
 fn zeroed(words: &[u32], floats: &[f32]) -> bool
-    ensures { result ≡ scratchZero words.now floats.now }
+    ensures { result ≡ scratch_zero words.now floats.now }
 {
     if replays::all_words(words, 0, 0) {
         return replays::all_zero(floats);
@@ -191,7 +191,7 @@ pub fn scratch_left(words: &[u32], floats: &[f32]) -> Left
 
 /// Puts a refusal's number and places on a page.
 pub fn put_refusal(page: &mut [u8], at: usize, r: Refusal) -> usize
-    ensures { Puts at (refusalText r) page.old result page.new }
+    ensures { Puts at (refusal_text r) page.old result page.new }
 {
     let said = answers::of_refusal(r);
     let number = pages::put_number(page, at, b": ", said.refusal);
@@ -200,7 +200,7 @@ pub fn put_refusal(page: &mut [u8], at: usize, r: Refusal) -> usize
 }
 
 fn put_place(page: &mut [u8], at: usize, i: usize, column: usize, node: u32) -> usize
-    ensures { Puts at (labelled (beforePlace i column) node) page.old result page.new }
+    ensures { Puts at (labelled (before_place i column) node) page.old result page.new }
 {
     if i == 0 {
         return pages::put_word(page, at, b": ", node);
@@ -212,7 +212,7 @@ fn put_place(page: &mut [u8], at: usize, i: usize, column: usize, node: u32) -> 
 }
 
 fn next_column(column: usize, index_size: usize) -> usize
-    ensures { result ≡ nextColumn index_size column }
+    ensures { result ≡ next_column index_size column }
 {
     let next = std::num::wrapping_add_usize(column, 1);
     if next == index_size {
@@ -223,7 +223,7 @@ fn next_column(column: usize, index_size: usize) -> usize
 
 /// Puts a graph on a page as the settled squares have it: every place of a row, and row after row.
 pub fn put_graph(page: &mut [u8], at: usize, graph: &[u32], index_size: usize) -> usize
-    ensures { Puts at (graphText index_size graph.now) page.old result page.new }
+    ensures { Puts at (graph_text index_size graph.now) page.old result page.new }
 {
     let mut i: usize = 0;
     let mut column: usize = 0;
@@ -238,7 +238,7 @@ pub fn put_graph(page: &mut [u8], at: usize, graph: &[u32], index_size: usize) -
 
 /// Ends a line by what became of the lent places.
 pub fn put_left(page: &mut [u8], at: usize, l: Left) -> usize
-    ensures { Puts at (leftText l) page.old result page.new }
+    ensures { Puts at (left_text l) page.old result page.new }
 {
     match l {
         Left::Untouched => pages::put(page, at, b", untouched\n"),
@@ -249,7 +249,7 @@ pub fn put_left(page: &mut [u8], at: usize, l: Left) -> usize
 
 // Puts words on a page, each behind a space.
 fn put_all(page: &mut [u8], at: usize, words: &[u32]) -> usize
-    ensures { Puts at (wordsText words.now) page.old result page.new }
+    ensures { Puts at (words_text words.now) page.old result page.new }
 {
     let mut i: usize = 0;
     let mut place = pages::put(page, at, b"");
@@ -262,7 +262,7 @@ fn put_all(page: &mut [u8], at: usize, words: &[u32]) -> usize
 
 /// Puts the first `count` words on a page, each behind a space.
 pub fn put_words(page: &mut [u8], at: usize, words: &[u32], count: usize) -> usize
-    ensures { Puts at (wordsText (take count words.now)) page.old result page.new }
+    ensures { Puts at (words_text (take count words.now)) page.old result page.new }
 {
     let long = cases::least(count, words.len());
     put_all(page, at, &words[..long])
@@ -270,7 +270,7 @@ pub fn put_words(page: &mut [u8], at: usize, words: &[u32], count: usize) -> usi
 
 /// Puts on a page how many cases were passed, and the reader's fault.
 pub fn put_end(page: &mut [u8], at: usize, passed: u32, c: Cursor) -> usize
-    ensures { Puts at (endText passed c) page.old result page.new }
+    ensures { Puts at (end_text passed c) page.old result page.new }
 {
     let cases = pages::put_word(page, at, b"cases: ", passed);
     let fault = pages::put_word(page, cases, b", fault: ", c.fault);

@@ -3,7 +3,7 @@ use Rattle.std.specs.Prelude.{ℕ, List, slice_index}
 use Rattle.params.specs.declared.SsgParams.{SsgParams}
 use Rattle.params.specs.Params.{params}
 use Rattle.cases.specs.declared.Cursor.{Cursor}
-use Rattle.cases.specs.Text.{wordsAt, behind}
+use Rattle.cases.specs.Text.{words_at, behind}
 use Rattle.refusals.specs.Given.{wide_of, bits_of, run_at}
 use Rattle.refusals_build.specs.declared.given.Call.{Call}
 use Rattle.refusals_build.specs.declared.given.Read.{Read}
@@ -26,8 +26,8 @@ call_of xs =
     }
 
 unfoldable pub case_at : List ℕ → Cursor → Read
-case_at text c = record { call = call_of (wordsAt 10 text c); cursor = behind 10 text c }
+case_at text c = record { call = call_of (words_at 10 text c); cursor = behind 10 text c }
 
 -- The place behind a case, whose first lanes, at most 4,096, stand behind its numbers
-unfoldable pub behindCase : List ℕ → Cursor → Cursor
-behindCase text c = (run_at 4096 text (case_at text c).cursor).cursor
+unfoldable pub behind_case : List ℕ → Cursor → Cursor
+behind_case text c = (run_at 4096 text (case_at text c).cursor).cursor

@@ -1,9 +1,9 @@
 // Square C and every row of the table that `build` can give, at its edges and beside others; each case of stdin says what became of lent junk.
 ghost use Rattle.std.specs.Prelude.{◌≡◌};
 ghost use Rattle.pages.specs.Page.{Puts};
-ghost use Rattle.refusals_build.specs.Given.{behindCase};
-ghost use Rattle.refusals_build.specs.Left.{refusedLeft};
-ghost use Rattle.refusals_build.specs.Texts.{longText, printedText, restText};
+ghost use Rattle.refusals_build.specs.Given.{behind_case};
+ghost use Rattle.refusals_build.specs.Left.{refused_left};
+ghost use Rattle.refusals_build.specs.Texts.{long_text, printed_text, rest_text};
 
 use cases::Cursor;
 use given::Call;
@@ -20,7 +20,7 @@ const PRINTED: usize = 256;
 
 // A graph of rows of one place: the first, and whether each further one holds the node before its own.
 fn put_long(page: &mut [u8], at: usize, graph: &[u32]) -> usize
-    ensures { Puts at (longText graph.now) page.old result page.new }
+    ensures { Puts at (long_text graph.now) page.old result page.new }
 {
     if graph.len() == 0 {
         return pages::put(page, at, b"");
@@ -34,7 +34,7 @@ fn put_long(page: &mut [u8], at: usize, graph: &[u32]) -> usize
 }
 
 fn put_graph(page: &mut [u8], at: usize, graph: &[u32], index_size: usize) -> usize
-    ensures { Puts at (printedText index_size graph.now) page.old result page.new }
+    ensures { Puts at (printed_text index_size graph.now) page.old result page.new }
 {
     if graph.len() <= PRINTED {
         return refusals::put_graph(page, at, graph, index_size);
@@ -44,7 +44,7 @@ fn put_graph(page: &mut [u8], at: usize, graph: &[u32], index_size: usize) -> us
 
 // What became of the lent places: a refusal leaves the graph too.
 fn left_refused(graph: &[u32], words: &[u32], floats: &[f32]) -> Left
-    ensures { result ≡ refusedLeft graph.now words.now floats.now }
+    ensures { result ≡ refused_left graph.now words.now floats.now }
 {
     if !refusals::kept_words(graph, 0, GRAPH) {
         return Left::Written;
@@ -62,7 +62,7 @@ fn put_rest(
     words: &[u32],
     floats: &[f32],
 ) -> usize
-    ensures { Puts at (restText answer index_size graph.now words.now floats.now) page.old result page.new }
+    ensures { Puts at (rest_text answer index_size graph.now words.now floats.now) page.old result page.new }
 {
     match answer {
         Answer::Done => {
@@ -127,7 +127,7 @@ fn lend(number: u32, c: Call, lanes: &[f32]) {
 
 // A case: its numbers, and its first lanes after their number; lane i behind them is i.
 fn one_case(text: &[u8], c: Cursor, number: u32) -> Cursor
-    ensures { result ≡ behindCase text.now c }
+    ensures { result ≡ behind_case text.now c }
 {
     let read = given::read_case(text, c);
     let mut lanes: [f32; 4096] = [0.0; 4096];

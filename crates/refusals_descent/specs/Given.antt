@@ -1,8 +1,8 @@
 -- What the list of calls says: a call's numbers, and what is changed in its state. Assumes nothing.
 use Rattle.std.specs.Prelude.{Bool, false, List, ℕ, zero, suc, ◌*◌, eqb, get_or, set, Float}
-use Rattle.rules.specs.Calls.{descentWords, taughtScratch}
+use Rattle.rules.specs.Calls.{descent_words, taught_scratch}
 use Rattle.cases.specs.declared.Cursor.{Cursor}
-use Rattle.cases.specs.Text.{word_at, size_at, wordsAt, behind}
+use Rattle.cases.specs.Text.{word_at, size_at, words_at, behind}
 use Rattle.refusals.specs.Given.{wide_of, bits_of}
 use Rattle.refusals_descent.specs.declared.call.Call.{Call}
 use Rattle.refusals_descent.specs.declared.given.Read.{Read}
@@ -26,7 +26,7 @@ call_of xs =
     }
 
 unfoldable pub call_at : List ℕ → Cursor → Read
-call_at text c = record { call = call_of (wordsAt 12 text c); cursor = behind 12 text c }
+call_at text c = record { call = call_of (words_at 12 text c); cursor = behind 12 text c }
 
 -- 1,024 nodes in lists of one: a lane and two draws each, and as many places as a call asks for
 abbrev pub most_of : Bool → Call
@@ -40,10 +40,10 @@ most_of begins =
       s = 1;
       lanes = 1024;
       draws = 2 * 1024;
-      state_u = descentWords 1024 1;
+      state_u = descent_words 1024 1;
       state_f = 1024;
-      words = taughtScratch 1024;
-      floats = taughtScratch 1024;
+      words = taught_scratch 1024;
+      floats = taught_scratch 1024;
     }
 
 -- `count` words from the place `at` on, as far as there are places
@@ -53,29 +53,29 @@ filled at (suc count) word words = filled (suc at) count word (set words at word
 
 module _ (text : List ℕ) where
   -- n changes of words: of each its first place, its length and its word
-  unfoldable pub wordsChanged : ℕ → Cursor → List ℕ → List ℕ
-  wordsChanged zero c words = words
-  wordsChanged (suc n) c words =
+  unfoldable pub words_changed : ℕ → Cursor → List ℕ → List ℕ
+  words_changed zero c words = words
+  words_changed (suc n) c words =
       let from = word_at text c in
       let long = word_at text from.cursor in
       let word = word_at text long.cursor in
-      wordsChanged n word.cursor (filled from.value long.value word.value words)
+      words_changed n word.cursor (filled from.value long.value word.value words)
 
   -- n changes of floats: of each its place and its bits
-  unfoldable pub floatsChanged : ℕ → Cursor → List Float → List Float
-  floatsChanged zero c floats = floats
-  floatsChanged (suc n) c floats =
+  unfoldable pub floats_changed : ℕ → Cursor → List Float → List Float
+  floats_changed zero c floats = floats
+  floats_changed (suc n) c floats =
       let at = word_at text c in
       let bits = word_at text at.cursor in
-      floatsChanged n bits.cursor (set floats at.value (bits_of bits.value))
+      floats_changed n bits.cursor (set floats at.value (bits_of bits.value))
 
   -- Up to eight changes, behind their number
-  unfoldable pub wordsHarmed : Cursor → List ℕ → List ℕ
-  wordsHarmed c words = let s = size_at 8 text c in wordsChanged s.value s.cursor words
+  unfoldable pub words_harmed : Cursor → List ℕ → List ℕ
+  words_harmed c words = let s = size_at 8 text c in words_changed s.value s.cursor words
 
-  unfoldable pub floatsHarmed : Cursor → List Float → List Float
-  floatsHarmed c floats = let s = size_at 8 text c in floatsChanged s.value s.cursor floats
+  unfoldable pub floats_harmed : Cursor → List Float → List Float
+  floats_harmed c floats = let s = size_at 8 text c in floats_changed s.value s.cursor floats
 
   -- The place behind up to eight changes of some numbers each
-  unfoldable pub behindChanges : ℕ → Cursor → Cursor
-  behindChanges each c = let s = size_at 8 text c in behind (s.value * each) text s.cursor
+  unfoldable pub behind_changes : ℕ → Cursor → Cursor
+  behind_changes each c = let s = size_at 8 text c in behind (s.value * each) text s.cursor

@@ -2,16 +2,16 @@
 use Rattle.std.specs.Prelude.{Bool, false, cond, List, ℕ, eqb, Float}
 use Rattle.rules.specs.declared.IterateAnswer.{IterateAnswer}
 use Rattle.rules.specs.declared.IterateAnswer.TheVariants.{Iterated, Refused}
-use Rattle.states.specs.Same.{alike, sameBits}
+use Rattle.states.specs.Same.{alike, same_bits}
 use Rattle.refusals.specs.declared.Left.{Left}
 use Rattle.refusals.specs.declared.Left.TheVariants.{Written}
 use Rattle.refusals.specs.Junk.{left_of}
 
 -- A state as it was given
-unfoldable pub standsAs : List ℕ → List Float → List ℕ → List Float → Bool
-standsAs us fs given-us given-fs = cond (alike eqb us given-us) (alike sameBits fs given-fs) false
+unfoldable pub stands_as : List ℕ → List Float → List ℕ → List Float → Bool
+stands_as us fs given_us given_fs = cond (alike eqb us given_us) (alike same_bits fs given_fs) false
 
 -- A refusal leaves the state too
-unfoldable pub leftBy : IterateAnswer → Bool → List ℕ → List Float → Left
-leftBy (Iterated cost new) stands words floats = left_of words floats
-leftBy (Refused r) stands words floats = cond stands (left_of words floats) Written
+unfoldable pub left_by : IterateAnswer → Bool → List ℕ → List Float → Left
+left_by (Iterated cost new) stands words floats = left_of words floats
+left_by (Refused r) stands words floats = cond stands (left_of words floats) Written

@@ -1,14 +1,14 @@
 // A call of `begin` or `iterate` on lent places, and its line: what it answered, and what became of the places.
 ghost use Rattle.std.specs.Prelude.{◌≡◌, ◌≤◌, length, set, replicate};
-ghost use Rattle.rules.specs.Rows.{emptyDistance};
+ghost use Rattle.rules.specs.Rows.{empty_distance};
 ghost use Rattle.rules.specs.Refusals.{said_of};
-ghost use Rattle.rules.specs.DescentCall.{iterateSaid};
+ghost use Rattle.rules.specs.DescentCall.{iterate_said};
 ghost use Rattle.descent.specs.Descent as descents;
-ghost use Rattle.iterate.specs.Iterate.{iterateLeft};
-ghost use Rattle.refusals_descent.specs.Left.{standsAs, leftBy};
+ghost use Rattle.iterate.specs.Iterate.{iterate_left};
+ghost use Rattle.refusals_descent.specs.Left.{stands_as, left_by};
 ghost use Rattle.refusals_descent.specs.Given.{filled};
-ghost use Rattle.refusals_descent.specs.State.{withContext, formedWords, usualWords, usualFloats, isUsual, wordsGiven, floatsGiven};
-ghost use Rattle.refusals_descent.specs.Outcome.{uncounted, outcomeOf, left_of};
+ghost use Rattle.refusals_descent.specs.State.{with_context, formed_words, usual_words, usual_floats, is_usual, words_given, floats_given};
+ghost use Rattle.refusals_descent.specs.Outcome.{uncounted, outcome_of, left_of};
 
 use libc::STDOUT_FILENO;
 use refusals::Left;
@@ -53,7 +53,7 @@ fn fill_nodes(words: &mut [u32], count: usize, node: u32)
 }
 
 fn fill_empty(floats: &mut [f32])
-    ensures { floats.new ≡ replicate (length floats.old) emptyDistance }
+    ensures { floats.new ≡ replicate (length floats.old) empty_distance }
 {
     let mut i: usize = 0;
     while i < floats.len() {
@@ -85,7 +85,7 @@ fn put_entry(words: &mut [u32], floats: &mut [f32], at: usize, node: u32, distan
 // The context of node 0: a new and a reversed-new member.
 fn put_context(words: &mut [u32], lists: usize, n: usize)
     requires { lists ≤ 4294967296 }
-    ensures { words.new ≡ withContext lists n words.old }
+    ensures { words.new ≡ with_context lists n words.old }
 {
     put_at(words, lists, 1);
     put_at(words, lists + 1, 1);
@@ -97,8 +97,8 @@ fn put_context(words: &mut [u32], lists: usize, n: usize)
 
 // Lists 0 and 3 of the usual state; the others stay unfilled.
 fn put_lists(words: &mut [u32], floats: &mut [f32])
-    ensures words_after { words.new ≡ usualWords words.old }
-    ensures floats_after { floats.new ≡ usualFloats floats.old }
+    ensures words_after { words.new ≡ usual_words words.old }
+    ensures floats_after { floats.new ≡ usual_floats floats.old }
 {
     put_entry(words, floats, 0, 1, 1.0);
     put_entry(words, floats, 1, 2, 9.0);
@@ -106,8 +106,8 @@ fn put_lists(words: &mut [u32], floats: &mut [f32])
 }
 
 fn write_formed(c: Call, words: &mut [u32], floats: &mut [f32])
-    ensures words_after { words.new ≡ formedWords c.n c.k (length words.old) }
-    ensures floats_after { floats.new ≡ replicate (length floats.old) emptyDistance }
+    ensures words_after { words.new ≡ formed_words c.n c.k (length words.old) }
+    ensures floats_after { floats.new ≡ replicate (length floats.old) empty_distance }
 {
     buffers::zero_words(words);
     fill_empty(floats);
@@ -120,7 +120,7 @@ fn write_formed(c: Call, words: &mut [u32], floats: &mut [f32])
 }
 
 fn is_usual(c: Call) -> bool
-    ensures { result ≡ isUsual c }
+    ensures { result ≡ is_usual c }
 {
     if c.n == 4 {
         return c.k == 2;
@@ -131,8 +131,8 @@ fn is_usual(c: Call) -> bool
 /// Writes the state that a call is lent: junk for a begin; for an iteration unfilled lists (the usual ones where it has four nodes and k
 /// 2), and node 0 with new 1 and reversed-new 2, or 0 where there is no node 2.
 pub fn write_state(c: Call, words: &mut [u32], floats: &mut [f32])
-    ensures words_after { words.new ≡ wordsGiven c (length words.old) }
-    ensures floats_after { floats.new ≡ floatsGiven c (length floats.old) }
+    ensures words_after { words.new ≡ words_given c (length words.old) }
+    ensures floats_after { floats.new ≡ floats_given c (length floats.old) }
 {
     if c.begins {
         refusals::fill_words(words, WORDS);
@@ -199,7 +199,7 @@ fn put_answer(
 
 // Whether the state stands as it was given.
 fn stands(state_u: &[u32], state_f: &[f32], given_u: &[u32], given_f: &[f32]) -> bool
-    ensures { result ≡ standsAs state_u.now state_f.now given_u.now given_f.now }
+    ensures { result ≡ stands_as state_u.now state_f.now given_u.now given_f.now }
 {
     if states::same_words(state_u, given_u) {
         return states::same_floats(state_f, given_f);
@@ -209,7 +209,7 @@ fn stands(state_u: &[u32], state_f: &[f32], given_u: &[u32], given_f: &[f32]) ->
 
 // What became of the lent places: a refusal leaves the state too.
 fn left(answer: IterateAnswer, stands: bool, words: &[u32], floats: &[f32]) -> Left
-    ensures { result ≡ leftBy answer stands words.now floats.now }
+    ensures { result ≡ left_by answer stands words.now floats.now }
 {
     match answer {
         IterateAnswer::Iterated { cost: _, new: _ } => refusals::scratch_left(words, floats),
@@ -240,7 +240,7 @@ fn say(number: u32, c: Call, answer: IterateAnswer, state_u: &[u32], left: Left)
 
 // The answer of a begin, which has no counts.
 fn uncounted(begun: Answer) -> IterateAnswer
-    ensures { iterateSaid result ≡ uncounted (said_of begun) }
+    ensures { iterate_said result ≡ uncounted (said_of begun) }
 {
     match begun {
         Answer::Done => IterateAnswer::Iterated { cost: 0, new: 0 },
@@ -257,7 +257,7 @@ fn asked(
     words: &mut [u32],
     floats: &mut [f32],
 ) -> IterateAnswer
-    ensures { iterateLeft result state_u.new state_f.new words.new floats.new ≡ outcomeOf c lanes.now draws.now state_u.old state_f.old words.old floats.old }
+    ensures { iterate_left result state_u.new state_f.new words.new floats.new ≡ outcome_of c lanes.now draws.now state_u.old state_f.old words.old floats.old }
 {
     if c.begins {
         let begun = descent::begin(

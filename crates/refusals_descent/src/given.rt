@@ -1,7 +1,7 @@
 // The calls of a list: their numbers, their lanes, and what is changed in their state.
 ghost use Rattle.std.specs.Prelude.{◌≡◌, set};
 ghost use Rattle.refusals.specs.Given.{bits_of};
-ghost use Rattle.refusals_descent.specs.Given.{call_of, call_at, most_of, filled, wordsHarmed, floatsHarmed, behindChanges};
+ghost use Rattle.refusals_descent.specs.Given.{call_of, call_at, most_of, filled, words_harmed, floats_harmed, behind_changes};
 
 use crate::call::Call;
 use cases::Cursor;
@@ -93,8 +93,8 @@ fn put_float(floats: &mut [f32], at: u32, bits: u32)
 
 /// Changes words of a state: how many runs, and of each its first place, its length and its word.
 pub fn harm_words(text: &[u8], c: Cursor, words: &mut [u32]) -> Cursor
-    ensures words_after { words.new ≡ wordsHarmed text.now c words.old }
-    ensures value { result ≡ behindChanges text.now 3 c }
+    ensures words_after { words.new ≡ words_harmed text.now c words.old }
+    ensures value { result ≡ behind_changes text.now 3 c }
 {
     let count = cases::read_size(text, c, 8);
     let mut left = count.value;
@@ -112,8 +112,8 @@ pub fn harm_words(text: &[u8], c: Cursor, words: &mut [u32]) -> Cursor
 
 /// Changes floats of a state: how many, and of each its place and its bits.
 pub fn harm_floats(text: &[u8], c: Cursor, floats: &mut [f32]) -> Cursor
-    ensures floats_after { floats.new ≡ floatsHarmed text.now c floats.old }
-    ensures value { result ≡ behindChanges text.now 2 c }
+    ensures floats_after { floats.new ≡ floats_harmed text.now c floats.old }
+    ensures value { result ≡ behind_changes text.now 2 c }
 {
     let count = cases::read_size(text, c, 8);
     let mut left = count.value;

@@ -1,7 +1,7 @@
 -- What the list of cases says: a call's numbers, and two entries of its lists. Assumes nothing.
 use Rattle.std.specs.Prelude.{ℕ, List, slice_index}
 use Rattle.cases.specs.declared.Cursor.{Cursor}
-use Rattle.cases.specs.Text.{wordsAt, behind}
+use Rattle.cases.specs.Text.{words_at, behind}
 use Rattle.refusals.specs.Given.{wide_of, bits_of, run_at}
 use Rattle.refusals_open.specs.declared.given.Call.{Call}
 use Rattle.refusals_open.specs.declared.given.Entry.{Entry}
@@ -38,8 +38,8 @@ case_of xs c =
     }
 
 unfoldable pub case_at : List ℕ → Cursor → Read
-case_at text c = case_of (wordsAt 15 text c) (behind 15 text c)
+case_at text c = case_of (words_at 15 text c) (behind 15 text c)
 
 -- The place behind a case, whose lanes, at most 1,025, and jobs, at most 65, stand behind its numbers
-unfoldable pub behindCase : List ℕ → Cursor → Cursor
-behindCase text c = (run_at 130 text (run_at 1025 text (case_at text c).cursor).cursor).cursor
+unfoldable pub behind_case : List ℕ → Cursor → Cursor
+behind_case text c = (run_at 130 text (run_at 1025 text (case_at text c).cursor).cursor).cursor

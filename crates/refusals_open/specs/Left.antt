@@ -5,10 +5,10 @@ use Rattle.refusals.specs.declared.Left.TheVariants.{Untouched, Zeroed, Written}
 use Rattle.refusals.specs.Junk.{left_of}
 
 -- Of a state that does not stand as it was, scratch is not told.
-unfoldable pub withState : Left → Left → Left
-withState Untouched scratch = scratch
-withState Zeroed scratch = Written
-withState Written scratch = Written
+unfoldable pub with_state : Left → Left → Left
+with_state Untouched scratch = scratch
+with_state Zeroed scratch = Written
+with_state Written scratch = Written
 
-unfoldable pub refusedLeft : List ℕ → List Float → List ℕ → List Float → Left
-refusedLeft words floats us fs = withState (left_of words floats) (left_of us fs)
+unfoldable pub refused_left : List ℕ → List Float → List ℕ → List Float → Left
+refused_left words floats us fs = with_state (left_of words floats) (left_of us fs)

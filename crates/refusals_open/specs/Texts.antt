@@ -4,10 +4,10 @@ use Rattle.rules.specs.declared.Answer.{Answer}
 use Rattle.rules.specs.declared.Answer.TheVariants.{Done, Refused}
 use Rattle.pages.specs.Page.{bytes}
 use Rattle.refusals.specs.Junk.{left_of}
-use Rattle.refusals.specs.Texts.{refusalText, leftText}
-use Rattle.refusals_open.specs.Left.{refusedLeft}
+use Rattle.refusals.specs.Texts.{refusal_text, left_text}
+use Rattle.refusals_open.specs.Left.{refused_left}
 
 -- Behind the case's number: what was answered, and what became of the lent places, where the call is done of scratch alone
-unfoldable pub restText : Answer → List ℕ → List Float → List ℕ → List Float → List ℕ
-restText Done words floats us fs = bytes ": done" ++ leftText (left_of us fs)
-restText (Refused r) words floats us fs = refusalText r ++ leftText (refusedLeft words floats us fs)
+unfoldable pub rest_text : Answer → List ℕ → List Float → List ℕ → List Float → List ℕ
+rest_text Done words floats us fs = bytes ": done" ++ left_text (left_of us fs)
+rest_text (Refused r) words floats us fs = refusal_text r ++ left_text (refused_left words floats us fs)

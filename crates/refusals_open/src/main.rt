@@ -1,9 +1,9 @@
 // Every row of the table of a relay's `open`, at its edges and beside the rows after it; stdin says what its numbers are.
 ghost use Rattle.std.specs.Prelude.{◌≡◌};
 ghost use Rattle.pages.specs.Page.{Puts};
-ghost use Rattle.refusals_open.specs.Given.{behindCase};
-ghost use Rattle.refusals_open.specs.Left.{refusedLeft};
-ghost use Rattle.refusals_open.specs.Texts.{restText};
+ghost use Rattle.refusals_open.specs.Given.{behind_case};
+ghost use Rattle.refusals_open.specs.Left.{refused_left};
+ghost use Rattle.refusals_open.specs.Texts.{rest_text};
 
 use cases::Cursor;
 use given::{Call, Entry};
@@ -18,7 +18,7 @@ const EMPTY: f32 = 340282346638528859811704183484516925440.0;
 
 // What became of the state and of scratch where the call is refused.
 fn left_refused(words: &[u32], floats: &[f32], scratch_u: &[u32], scratch_f: &[f32]) -> Left
-    ensures { result ≡ refusedLeft words.now floats.now scratch_u.now scratch_f.now }
+    ensures { result ≡ refused_left words.now floats.now scratch_u.now scratch_f.now }
 {
     match refusals::scratch_left(words, floats) {
         Left::Untouched => refusals::scratch_left(scratch_u, scratch_f),
@@ -37,7 +37,7 @@ fn put_rest(
     scratch_u: &[u32],
     scratch_f: &[f32],
 ) -> usize
-    ensures { Puts at (restText answer words.now floats.now scratch_u.now scratch_f.now) page.old result page.new }
+    ensures { Puts at (rest_text answer words.now floats.now scratch_u.now scratch_f.now) page.old result page.new }
 {
     match answer {
         Answer::Done => {
@@ -148,7 +148,7 @@ fn lend(number: u32, c: Call, lanes: &[f32], jobs: &[u32], e: Entry, f: Entry) {
 
 // A case: its numbers and two entries, then lanes and jobs, each after their number.
 fn one_case(text: &[u8], c: Cursor, number: u32) -> Cursor
-    ensures { result ≡ behindCase text.now c }
+    ensures { result ≡ behind_case text.now c }
 {
     let read = given::read_case(text, c);
     let mut lanes: [f32; 1025] = [0.0; 1025];

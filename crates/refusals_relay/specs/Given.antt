@@ -1,7 +1,7 @@
 -- What the list of cases says: a call's numbers, and what is done to the state that it is lent. Assumes nothing.
 use Rattle.std.specs.Prelude.{ℕ, List, slice_index, slice_set, Float}
 use Rattle.cases.specs.declared.Cursor.{Cursor}
-use Rattle.cases.specs.Text.{wordsAt, behind}
+use Rattle.cases.specs.Text.{words_at, behind}
 use Rattle.refusals.specs.Given.{wide_of, bits_of}
 use Rattle.refusals_relay.specs.declared.given.Lent.{Lent}
 use Rattle.refusals_relay.specs.declared.given.State.{State}
@@ -39,12 +39,12 @@ state_of xs =
 
 unfoldable pub case_at : List ℕ → Cursor → Read
 case_at text c =
-    let xs = wordsAt 16 text c in
+    let xs = words_at 16 text c in
     record { lent = lent_of xs; state = state_of xs; cursor = behind 16 text c }
 
 -- What is put into a state before the call
-unfoldable pub wordsDamaged : State → List ℕ → List ℕ
-wordsDamaged s words = slice_set (slice_set words s.at s.word) s.also s.other
+unfoldable pub words_damaged : State → List ℕ → List ℕ
+words_damaged s words = slice_set (slice_set words s.at s.word) s.also s.other
 
-unfoldable pub floatsDamaged : State → List Float → List Float
-floatsDamaged s floats = slice_set floats s.float_at s.float
+unfoldable pub floats_damaged : State → List Float → List Float
+floats_damaged s floats = slice_set floats s.float_at s.float

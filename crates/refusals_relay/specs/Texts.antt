@@ -3,15 +3,15 @@ use Rattle.std.specs.Prelude.{ℕ, List, ◌++◌, take, Float}
 use Rattle.rules.specs.declared.Answer.{Answer}
 use Rattle.rules.specs.declared.Answer.TheVariants.{Done, Refused}
 use Rattle.pages.specs.Page.{bytes}
-use Rattle.refusals.specs.Texts.{refusalText, leftText, wordsText}
-use Rattle.refusals_relay.specs.Left.{refusedLeft, doneLeft}
+use Rattle.refusals.specs.Texts.{refusal_text, left_text, words_text}
+use Rattle.refusals_relay.specs.Left.{refused_left, done_left}
 
 -- What a move answered
-unfoldable pub movedText : Answer → List ℕ
-movedText Done = bytes ": moved"
-movedText (Refused r) = refusalText r
+unfoldable pub moved_text : Answer → List ℕ
+moved_text Done = bytes ": moved"
+moved_text (Refused r) = refusal_text r
 
 -- What a close answered, with the two reports of each of the four jobs, and what became of the lent places
-unfoldable pub closedText : Answer → List ℕ → List Float → List ℕ → List ℕ
-closedText Done nodes dists reports = bytes ": reports" ++ wordsText (take 8 reports) ++ leftText (doneLeft reports)
-closedText (Refused r) nodes dists reports = refusalText r ++ leftText (refusedLeft nodes dists reports)
+unfoldable pub closed_text : Answer → List ℕ → List Float → List ℕ → List ℕ
+closed_text Done nodes dists reports = bytes ": reports" ++ words_text (take 8 reports) ++ left_text (done_left reports)
+closed_text (Refused r) nodes dists reports = refusal_text r ++ left_text (refused_left nodes dists reports)

@@ -2,9 +2,9 @@
 ghost use Rattle.std.specs.Prelude.{◌≡◌};
 ghost use Rattle.cases.specs.Text.{behind};
 ghost use Rattle.pages.specs.Page.{Puts};
-ghost use Rattle.refusals_relay.specs.Given.{wordsDamaged, floatsDamaged};
-ghost use Rattle.refusals_relay.specs.Left.{stateLeft, refusedLeft, doneLeft};
-ghost use Rattle.refusals_relay.specs.Texts.{movedText, closedText};
+ghost use Rattle.refusals_relay.specs.Given.{words_damaged, floats_damaged};
+ghost use Rattle.refusals_relay.specs.Left.{state_left, refused_left, done_left};
+ghost use Rattle.refusals_relay.specs.Texts.{moved_text, closed_text};
 
 use cases::Cursor;
 use given::{Lent, State};
@@ -58,8 +58,8 @@ fn advance_all(s: State, words: &mut [u32], floats: &mut [f32]) {
 }
 
 fn damage(s: State, words: &mut [u32], floats: &mut [f32])
-    ensures words_after { words.new ≡ wordsDamaged s words.old }
-    ensures floats_after { floats.new ≡ floatsDamaged s floats.old }
+    ensures words_after { words.new ≡ words_damaged s words.old }
+    ensures floats_after { floats.new ≡ floats_damaged s floats.old }
 {
     relays::put_word(words, s.at, s.word);
     relays::put_word(words, s.also, s.other);
@@ -80,7 +80,7 @@ fn make(s: State, words: &mut [u32], floats: &mut [f32]) {
 }
 
 fn same(words: &[u32], floats: &[f32], twin_words: &[u32], twin_floats: &[f32]) -> Left
-    ensures { result ≡ stateLeft words.now floats.now twin_words.now twin_floats.now }
+    ensures { result ≡ state_left words.now floats.now twin_words.now twin_floats.now }
 {
     if !states::same_words(words, twin_words) {
         return Left::Written;
@@ -92,7 +92,7 @@ fn same(words: &[u32], floats: &[f32], twin_words: &[u32], twin_floats: &[f32]) 
 }
 
 fn put_moved(page: &mut [u8], at: usize, answer: Answer) -> usize
-    ensures { Puts at (movedText answer) page.old result page.new }
+    ensures { Puts at (moved_text answer) page.old result page.new }
 {
     match answer {
         Answer::Done => pages::put(page, at, b": moved"),
@@ -164,7 +164,7 @@ fn lend_move(number: u32, l: Lent, s: State) {
 
 // What became of all places where a close is refused.
 fn left_refused(nodes: &[u32], dists: &[f32], reports: &[u32]) -> Left
-    ensures { result ≡ refusedLeft nodes.now dists.now reports.now }
+    ensures { result ≡ refused_left nodes.now dists.now reports.now }
 {
     if refusals::kept_words(reports, 0, REPORTS) {
         return refusals::scratch_left(nodes, dists);
@@ -174,7 +174,7 @@ fn left_refused(nodes: &[u32], dists: &[f32], reports: &[u32]) -> Left
 
 // What became of the reports behind those of the four jobs.
 fn left_done(reports: &[u32]) -> Left
-    ensures { result ≡ doneLeft reports.now }
+    ensures { result ≡ done_left reports.now }
 {
     if refusals::kept_words(reports, 8, REPORTS) {
         return Left::Untouched;
@@ -190,7 +190,7 @@ fn put_closed(
     dists: &[f32],
     reports: &[u32],
 ) -> usize
-    ensures { Puts at (closedText answer nodes.now dists.now reports.now) page.old result page.new }
+    ensures { Puts at (closed_text answer nodes.now dists.now reports.now) page.old result page.new }
 {
     match answer {
         Answer::Done => {

@@ -1,7 +1,7 @@
 -- What the list of cases says: a call's numbers, and where its runs end. Assumes nothing.
 use Rattle.std.specs.Prelude.{ℕ, List, slice_index}
 use Rattle.cases.specs.declared.Cursor.{Cursor}
-use Rattle.cases.specs.Text.{wordsAt, behind}
+use Rattle.cases.specs.Text.{words_at, behind}
 use Rattle.refusals.specs.Given.{wide_of, run_at}
 use Rattle.refusals_search.specs.declared.given.Call.{Call}
 use Rattle.refusals_search.specs.declared.given.Read.{Read}
@@ -21,11 +21,11 @@ call_of xs =
     }
 
 unfoldable pub case_at : List ℕ → Cursor → Read
-case_at text c = record { call = call_of (wordsAt 8 text c); cursor = behind 8 text c }
+case_at text c = record { call = call_of (words_at 8 text c); cursor = behind 8 text c }
 
 -- The place behind a case, whose lanes, graph and roots, at most 65 each, and query, at most 2, stand behind its numbers
-unfoldable pub behindCase : List ℕ → Cursor → Cursor
-behindCase text c =
+unfoldable pub behind_case : List ℕ → Cursor → Cursor
+behind_case text c =
     let lanes = run_at 65 text (case_at text c).cursor in
     let graph = run_at 65 text lanes.cursor in
     let roots = run_at 65 text graph.cursor in

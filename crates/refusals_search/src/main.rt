@@ -1,9 +1,9 @@
 // Squares D to G and J and every row of the table that `search` can give, at its edges and beside others; each case of stdin says what became of lent junk.
 ghost use Rattle.std.specs.Prelude.{◌≡◌};
 ghost use Rattle.pages.specs.Page.{Puts};
-ghost use Rattle.refusals_search.specs.Given.{behindCase};
-ghost use Rattle.refusals_search.specs.Left.{resultsLeft};
-ghost use Rattle.refusals_search.specs.Texts.{resultsText, restText};
+ghost use Rattle.refusals_search.specs.Given.{behind_case};
+ghost use Rattle.refusals_search.specs.Left.{results_left};
+ghost use Rattle.refusals_search.specs.Texts.{results_text, rest_text};
 
 use cases::Cursor;
 use given::Call;
@@ -20,7 +20,7 @@ const BITS: u32 = 0xAB00_0000;
 
 // What became of the lent places, where the first `m` of the results are the answer's.
 fn left(m: usize, nodes: &[u32], bits: &[u32], words: &[u32], floats: &[f32]) -> Left
-    ensures { result ≡ resultsLeft m nodes.now bits.now words.now floats.now }
+    ensures { result ≡ results_left m nodes.now bits.now words.now floats.now }
 {
     if !refusals::kept_words(nodes, m, NODES) {
         return Left::Written;
@@ -39,7 +39,7 @@ fn put_results(
     nodes: &[u32],
     bits: &[u32],
 ) -> usize
-    ensures { Puts at (resultsText m takings nodes.now bits.now) page.old result page.new }
+    ensures { Puts at (results_text m takings nodes.now bits.now) page.old result page.new }
 {
     let found = pages::put_number(page, at, b": ", m);
     let taken = pages::put_number(page, found, b",", takings);
@@ -59,7 +59,7 @@ fn put_rest(
     words: &[u32],
     floats: &[f32],
 ) -> usize
-    ensures { Puts at (restText answer nodes.now bits.now words.now floats.now) page.old result page.new }
+    ensures { Puts at (rest_text answer nodes.now bits.now words.now floats.now) page.old result page.new }
 {
     match answer {
         SearchAnswer::Found { m, takings } => {
@@ -146,7 +146,7 @@ fn lend(number: u32, c: Call, lanes: &[f32], graph: &[u32], roots: &[u32], query
 
 // A case: its numbers, then what is lent to be read, each run after its length.
 fn one_case(text: &[u8], c: Cursor, number: u32) -> Cursor
-    ensures { result ≡ behindCase text.now c }
+    ensures { result ≡ behind_case text.now c }
 {
     let read = given::read_case(text, c);
     let mut lanes: [f32; 65] = [0.0; 65];

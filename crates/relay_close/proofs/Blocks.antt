@@ -17,13 +17,13 @@ module _ {A : Type 0} where
     pub long : length xs ≡ length goal
     pub front : take (w * v) xs ≡ take (w * v) goal
 
-  pub blocks-none : (goal : List A) (v : ℕ) (xs : List A) → length xs ≡ length goal → Blocks goal v 0 xs
-  blocks-none goal v xs h = record { long = h; front = (let z = zero-mul v in rw z) }
+  pub blocks_none : (goal : List A) (v : ℕ) (xs : List A) → length xs ≡ length goal → Blocks goal v 0 xs
+  blocks_none goal v xs h = record { long = h; front = (let z = zero-mul v in rw z) }
 
   module _ {goal : List A} {v w : ℕ} {xs : List A} (inv : Blocks goal v w xs) where
-    pub blocks-turn : (m : ℕ) (ys : List A) → m ≡ v → w * v + v ≤ length goal → length ys ≡ v → ys ≡ part v w goal → Blocks goal v (w + 1) (put_mid (w * v) m xs ys)
+    pub blocks_turn : (m : ℕ) (ys : List A) → m ≡ v → w * v + v ≤ length goal → length ys ≡ v → ys ≡ part v w goal → Blocks goal v (w + 1) (put_mid (w * v) m xs ys)
     unfolding part
-    blocks-turn m ys cut h long e =
+    blocks_turn m ys cut h long e =
         let l = inv.long in
         let s = suc-mul w v in
         let next : (w + 1) * v ≡ w * v + v = ap (λ (i : ℕ). i * v) (add-one w) ∙ s in

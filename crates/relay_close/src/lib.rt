@@ -1,12 +1,12 @@
 // The entry `close`: the refusal table, the lists and the reports.
 ghost use Rattle.std.specs.Prelude.{◌≡◌, true, [], ◌∷◌, ◌+◌, ◌*◌, ◌≤◌, length};
-ghost use Rattle.rules.specs.Loops.{any_of, firstFrom, over};
-ghost use Rattle.rules.specs.Refusals.{decide, decisionOf, holds, notExactly};
-ghost use Rattle.rules.specs.Calls.{relayWords, relayFloats};
-ghost use Rattle.rules.specs.Relay.{reportsOf};
-ghost use Rattle.rules.specs.RelayPlaces.{relayIn};
-ghost use Rattle.rules.specs.RelayCall.{closeTable};
-ghost use Rattle.relay_close.specs.Close.{lent, stepsLeft, Done, ListsWritten, Closed};
+ghost use Rattle.rules.specs.Loops.{any_of, first_from, over};
+ghost use Rattle.rules.specs.Refusals.{decide, decision_of, holds, not_exactly};
+ghost use Rattle.rules.specs.Calls.{relay_words, relay_floats};
+ghost use Rattle.rules.specs.Relay.{reports_of};
+ghost use Rattle.rules.specs.RelayPlaces.{relay_in};
+ghost use Rattle.rules.specs.RelayCall.{close_table};
+ghost use Rattle.relay_close.specs.Close.{lent, steps_left, Done, ListsWritten, Closed};
 
 use rules::{Answer, Refusal};
 
@@ -21,7 +21,7 @@ fn wrong_buffers(
     reports: usize,
 ) -> bool
     requires { (n ≤ 1024) × (k ≤ 64) }
-    ensures { result ≡ any_of holds (notExactly (relayWords n k) words ∷ notExactly (relayFloats n k) floats ∷ notExactly (n * k) nodes ∷ notExactly (n * k) distances ∷ notExactly 128 reports ∷ []) }
+    ensures { result ≡ any_of holds (not_exactly (relay_words n k) words ∷ not_exactly (relay_floats n k) floats ∷ not_exactly (n * k) nodes ∷ not_exactly (n * k) distances ∷ not_exactly 128 reports ∷ []) }
 {
     if words != n * (k + 65) + 1024 {
         return true;
@@ -40,8 +40,8 @@ fn wrong_buffers(
 
 /// The lowest of the first `count` jobs that has steps left, or `count`.
 fn lowest_unfinished(words: &[u32], n: usize, k: usize, count: usize) -> usize
-    requires { (n ≤ 1024) × (k ≤ 64) × (length words.now ≡ relayWords n k) × (count ≤ 64) }
-    ensures { result ≡ firstFrom (stepsLeft n k words.now) 0 count }
+    requires { (n ≤ 1024) × (k ≤ 64) × (length words.now ≡ relay_words n k) × (count ≤ 64) }
+    ensures { result ≡ first_from (steps_left n k words.now) 0 count }
 {
     let jobs = n * (k + 64) + n;
     let mut i = 0;
@@ -64,7 +64,7 @@ fn judge(
     distances: &[f32],
     reports: &[u32],
 ) -> Answer
-    ensures { decisionOf result ≡ decide (closeTable (lent n k words.now floats.now nodes.now distances.now reports.now)) }
+    ensures { decision_of result ≡ decide (close_table (lent n k words.now floats.now nodes.now distances.now reports.now)) }
 {
     if table::outside(2, 1024, n) {
         return Answer::Refused(Refusal::Nodes);
@@ -104,7 +104,7 @@ fn write_lists(
     distances: &mut [f32],
 )
     requires { Done n k words.now floats.now × (length nodes.old ≡ n * k) × (length distances.old ≡ n * k) }
-    ensures { ListsWritten (relayIn n k words.now floats.now).lists nodes.new distances.new }
+    ensures { ListsWritten (relay_in n k words.now floats.now).lists nodes.new distances.new }
 {
     let room = k + 64;
     let mut w = 0;
@@ -122,7 +122,7 @@ fn write_lists(
 /// Writes each job's two reports to the front, two a job.
 fn write_reports(words: &[u32], floats: &[f32], n: usize, k: usize, reports: &mut [u32])
     requires { Done n k words.now floats.now × (length reports.old ≡ 128) }
-    ensures { reports.new ≡ over (length (reportsOf (relayIn n k words.now floats.now).jobs)) (reportsOf (relayIn n k words.now floats.now).jobs) reports.old }
+    ensures { reports.new ≡ over (length (reports_of (relay_in n k words.now floats.now).jobs)) (reports_of (relay_in n k words.now floats.now).jobs) reports.old }
 {
     let jobs = n * (k + 64) + n;
     let count = words[jobs] as usize;

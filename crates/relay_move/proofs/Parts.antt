@@ -12,20 +12,20 @@ use lib.Ieee.{Float}
 use Rattle.rules.specs.declared.Neighbor.{Neighbor}
 use Rattle.rules.specs.Loops.{part}
 use Rattle.rules.specs.Distance.{zero32}
-use Rattle.rules.specs.Lists.{entries, nodesOf, distancesOf}
-use Rattle.rules.specs.Relay.{Stage, nextList}
+use Rattle.rules.specs.Lists.{entries, nodes_of, distances_of}
+use Rattle.rules.specs.Relay.{Stage, next_list}
 use Rattle.rules.specs.Places.{padded}
 use Rattle.relay_state.specs.State.{Sized}
-use Rattle.rules.specs.RelayPlaces.{relayIn}
+use Rattle.rules.specs.RelayPlaces.{relay_in}
 use Rattle.rules.proofs.Places.{length-padded}
 use Rattle.relay_state.proofs.Parts.{sizes, Inside, inside}
 use Rattle.relay_state.proofs.Reading.{jobs-long}
 use Rattle.halves.specs.declared.Flags.{Flags}
 use Rattle.halves.specs.Halves.{NextFlags, Roomed, NextList}
-use Rattle.buffers.proofs.Places.{put-length, put-high}
+use Rattle.buffers.proofs.Places.{put-length, put_high}
 use Rattle.lists.proofs.Plain.{length-nodes}
-use Rattle.jobs.specs.Jobs.{keptWords}
-use Rattle.relay_move.specs.Moves.{listIn, Room, wordsWith, ListStepped, jobPlace, halfStage, HalfReady, offered, HalfMoved}
+use Rattle.jobs.specs.Jobs.{kept_words}
+use Rattle.relay_move.specs.Moves.{list_in, Room, words_with, ListStepped, job_place, half_stage, HalfReady, offered, HalfMoved}
 
 module _ {n k : ℕ} {us : List ℕ} {fs : List Float} {w : ℕ} (z : Sized n k us fs) (r : Room n k us fs w) where
   pub top : Inside n k w (length us) (length fs)
@@ -33,9 +33,9 @@ module _ {n k : ℕ} {us : List ℕ} {fs : List Float} {w : ℕ} (z : Sized n k 
 
   -- m places are lent, from w times k + 64 on
   module _ (m : ℕ) (cut : m ≡ k + 64) where
-    pub lent-roomed : Roomed (take m (drop (w * (k + 64)) us)) (take m (drop (w * (k + 64)) fs)) (get_or us (n * (k + 64) + w) 0)
+    pub lent_roomed : Roomed (take m (drop (w * (k + 64)) us)) (take m (drop (w * (k + 64)) fs)) (get_or us (n * (k + 64) + w) 0)
     unfolding part
-    lent-roomed = rw cut r.room
+    lent_roomed = rw cut r.room
 
     pub lent-long : length (take m (drop (w * (k + 64)) us)) ≡ k + 64
     lent-long =
@@ -45,21 +45,21 @@ module _ {n k : ℕ} {us : List ℕ} {fs : List Float} {w : ℕ} (z : Sized n k 
         length-take-le m (drop (w * (k + 64)) us) (simp length-drop (omega arith)) ∙ cut
 
     pub lent-flags : (equal : Bool) (e : Neighbor) (s : Stage) {f : Flags}
-        → NextFlags k equal e (entries (get_or us (n * (k + 64) + w) 0) (take m (drop (w * (k + 64)) us)) (take m (drop (w * (k + 64)) fs))) s f → NextFlags k equal e (listIn n k us fs w) s f
+        → NextFlags k equal e (entries (get_or us (n * (k + 64) + w) 0) (take m (drop (w * (k + 64)) us)) (take m (drop (w * (k + 64)) fs))) s f → NextFlags k equal e (list_in n k us fs w) s f
     unfolding part
     lent-flags equal e s x = rw cut at x
 
-    pub list-stepped : (e : Neighbor) (s : Stage) {ns' : List ℕ} {ds' : List Float} {len : ℕ}
+    pub list_stepped : (e : Neighbor) (s : Stage) {ns' : List ℕ} {ds' : List Float} {len : ℕ}
         → NextList (take m (drop (w * (k + 64)) us)) (take m (drop (w * (k + 64)) fs)) (get_or us (n * (k + 64) + w) 0) e s ns' ds' len
         → ListStepped n k us fs w e s (set (put_mid (w * (k + 64)) m us ns') (n * (k + 64) + w) len) (put_mid (w * (k + 64)) m fs ds')
     unfolding part
-    list-stepped e s {ns'} {ds'} {len} x =
-        let l = nextList e (listIn n k us fs w) s in
+    list_stepped e s {ns'} {ds'} {len} x =
+        let l = next_list e (list_in n k us fs w) s in
         let long = lent-long in
         let y : NextList (take (k + 64) (drop (w * (k + 64)) us)) (take (k + 64) (drop (w * (k + 64)) fs)) (get_or us (n * (k + 64) + w) 0) e s ns' ds' len = rw cut at x in
         let wide : length (take (k + 64) (drop (w * (k + 64)) us)) ≡ k + 64 = rw cut at lent-long in
-        let a : ns' ≡ padded (k + 64) 0 (nodesOf l) = y.nodes ∙ ap (λ (i : ℕ). padded i 0 (nodesOf l)) wide in
-        let b : ds' ≡ padded (k + 64) zero32 (distancesOf l) = y.dists ∙ ap (λ (i : ℕ). padded i zero32 (distancesOf l)) wide in
+        let a : ns' ≡ padded (k + 64) 0 (nodes_of l) = y.nodes ∙ ap (λ (i : ℕ). padded i 0 (nodes_of l)) wide in
+        let b : ds' ≡ padded (k + 64) zero32 (distances_of l) = y.dists ∙ ap (λ (i : ℕ). padded i zero32 (distances_of l)) wide in
         let c = y.count in
         let d = y.few in
         record { few = omega arith; words = rw (cut, a, y.count); floats = rw (cut, b) }
@@ -70,18 +70,18 @@ module _ {A : Type 0} (p v : ℕ) (xs ys : List A) (fits : p + v ≤ length xs) 
   pub drop-put : (a : ℕ) → p + v ≤ a → drop a (put_mid p v xs ys) ≡ drop a xs
   drop-put a h =
       let e = put-length p v xs ys fits long in
-      sym (take_all (length xs) (drop a (put_mid p v xs ys)) (simp length-drop (omega arith))) ∙ put-high p v xs ys fits long a (length xs) h
+      sym (take_all (length xs) (drop a (put_mid p v xs ys)) (simp length-drop (omega arith))) ∙ put_high p v xs ys fits long a (length xs) h
       ∙ take_all (length xs) (drop a xs) (simp length-drop (omega arith))
 
 module _ {n k : ℕ} {us : List ℕ} {fs : List Float} {w : ℕ} (z : Sized n k us fs) (below : w < n) (l : List Neighbor) (short : length l ≤ k + 64) where
   abbrev row : List ℕ
-  row = padded (k + 64) 0 (nodesOf l)
+  row = padded (k + 64) 0 (nodes_of l)
 
   wide_row : length row ≡ k + 64
-  wide_row = length-padded (k + 64) 0 (nodesOf l) (let e = length-nodes l in omega arith)
+  wide_row = length-padded (k + 64) 0 (nodes_of l) (let e = length-nodes l in omega arith)
 
-  pub drop-with : (a : ℕ) → n * (k + 64) + n ≤ a → drop a (wordsWith n k w l us) ≡ drop a us
-  drop-with a h =
+  pub drop_with : (a : ℕ) → n * (k + 64) + n ≤ a → drop a (words_with n k w l us) ≡ drop a us
+  drop_with a h =
       let b = inside w z below in
       let to = b.to in
       let words = b.sizes.all_words in
@@ -95,43 +95,43 @@ module _ {n k : ℕ} {us : List ℕ} {fs : List Float} {i w half steps : ℕ} (r
   e = offered n k fs i other
 
   abbrev s : Stage
-  s = halfStage n k us i half steps
+  s = half_stage n k us i half steps
 
   abbrev l : List Neighbor
-  l = listIn n k us fs w
+  l = list_in n k us fs w
 
   module _ {us' : List ℕ} {fs' : List Float} (listed : ListStepped n k us fs w e s us' fs') where
-    pub keep-ready : (m : ℕ) → m ≡ 15 → (15 ≤ length (take m (drop (jobPlace n k i) us'))) × (half ≤ 5) × (get_or (take m (drop (jobPlace n k i) us')) 2 0 ≤ 7)
+    pub keep-ready : (m : ℕ) → m ≡ 15 → (15 ≤ length (take m (drop (job_place n k i) us'))) × (half ≤ 5) × (get_or (take m (drop (job_place n k i) us')) 2 0 ≤ 7)
     keep-ready m cut =
         let z = ready.sized in
         let below = ready.room.below in
         let b = inside w z below in
         let words = b.sizes.all_words in
         let j = ready.few in
-        let same : drop (jobPlace n k i) us' ≡ drop (jobPlace n k i) us = ap (drop (jobPlace n k i)) listed.words ∙ drop-with z below (nextList e l s) listed.few (jobPlace n k i) (omega arith) in
-        let long : length (take m (drop (jobPlace n k i) us')) ≡ 15 = rw same (length-take-le m (drop (jobPlace n k i) us) (simp length-drop (omega arith)) ∙ cut) in
-        let two : get_or (take m (drop (jobPlace n k i) us')) 2 0 ≡ get_or us (jobPlace n k i + 2) 0 =
-        get_or-take m (drop (jobPlace n k i) us') 2 0 (omega arith) ∙ ap (λ (xs : List ℕ). get_or xs 2 0) same ∙ get_or-drop (jobPlace n k i) us 2 0 in
+        let same : drop (job_place n k i) us' ≡ drop (job_place n k i) us = ap (drop (job_place n k i)) listed.words ∙ drop_with z below (next_list e l s) listed.few (job_place n k i) (omega arith) in
+        let long : length (take m (drop (job_place n k i) us')) ≡ 15 = rw same (length-take-le m (drop (job_place n k i) us) (simp length-drop (omega arith)) ∙ cut) in
+        let two : get_or (take m (drop (job_place n k i) us')) 2 0 ≡ get_or us (job_place n k i + 2) 0 =
+        get_or-take m (drop (job_place n k i) us') 2 0 (omega arith) ∙ ap (λ (xs : List ℕ). get_or xs 2 0) same ∙ get_or-drop (job_place n k i) us 2 0 in
         let done = ready.done in
         (omega arith, ready.place, omega arith)
 
-    pub half-moved : (m : ℕ) {f : Flags} {ws : List ℕ} → m ≡ 15 → NextFlags k (eqb w other) e l s f → ws ≡ keptWords (take m (drop (jobPlace n k i) us')) half f.taken f.longer
-        → HalfMoved n k us fs i w other half steps (put_mid (jobPlace n k i) m us' ws) fs'
-    half-moved m {f} {ws} cut flags made =
+    pub half_moved : (m : ℕ) {f : Flags} {ws : List ℕ} → m ≡ 15 → NextFlags k (eqb w other) e l s f → ws ≡ kept_words (take m (drop (job_place n k i) us')) half f.taken f.longer
+        → HalfMoved n k us fs i w other half steps (put_mid (job_place n k i) m us' ws) fs'
+    half_moved m {f} {ws} cut flags made =
         record { few = listed.few; words = rw (made, flags.taken, flags.longer, listed.words, cut); floats = listed.floats }
 
 -- ---- where job i lies
 
 pub record Placed (n k i words floats : ℕ) : Type 0 where
   pub few : i < 64
-  pub inside : jobPlace n k i + 15 ≤ words
-  pub small : jobPlace n k i + 15 ≤ 133120
+  pub inside : job_place n k i + 15 ≤ words
+  pub small : job_place n k i + 15 ≤ 133120
   pub float : n * (k + 64) + i < floats
 
-pub placed : {n k : ℕ} {us : List ℕ} {fs : List Float} (i : ℕ) → Sized n k us fs → i < length (relayIn n k us fs).jobs → Placed n k i (length us) (length fs)
+pub placed : {n k : ℕ} {us : List ℕ} {fs : List Float} (i : ℕ) → Sized n k us fs → i < length (relay_in n k us fs).jobs → Placed n k i (length us) (length fs)
 placed {n} {k} {us} {fs} i z h =
     let s = sizes z in
     let a = s.all_words in
-    let b = s.all-floats in
+    let b = s.all_floats in
     let c = jobs-long n k us fs in
     record { few = omega arith; inside = omega arith; small = omega arith; float = omega arith }

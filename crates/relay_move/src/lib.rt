@@ -1,14 +1,14 @@
 // The entry `move_job`: the refusal table, and one step of a job in the relay's state.
 ghost use Rattle.std.specs.Prelude.{◌≡◌, true, false, [], ◌∷◌, ◌+◌, ◌*◌, ◌≤◌, ◌<◌, eqb, length, get_or};
 ghost use Rattle.rules.specs.Loops.{any_of};
-ghost use Rattle.rules.specs.Refusals.{decide, decisionOf, holds, notExactly};
-ghost use Rattle.rules.specs.Calls.{relayWords, relayFloats};
-ghost use Rattle.rules.specs.Relay.{isFinished, jobAt};
-ghost use Rattle.rules.specs.RelayPlaces.{stageIn, relayIn, relayFormed};
-ghost use Rattle.rules.specs.RelayCall.{moveTable};
+ghost use Rattle.rules.specs.Refusals.{decide, decision_of, holds, not_exactly};
+ghost use Rattle.rules.specs.Calls.{relay_words, relay_floats};
+ghost use Rattle.rules.specs.Relay.{is_finished, job_at};
+ghost use Rattle.rules.specs.RelayPlaces.{stage_in, relay_in, relay_formed};
+ghost use Rattle.rules.specs.RelayCall.{move_table};
 ghost use Rattle.relay_state.specs.State.{Sized};
 ghost use Rattle.halves.specs.Halves.{NextFlags};
-ghost use Rattle.relay_move.specs.Moves.{listIn, Room, ListStepped, HalfReady, HalfMoved, Stepped, noStep};
+ghost use Rattle.relay_move.specs.Moves.{list_in, Room, ListStepped, HalfReady, HalfMoved, Stepped, no_step};
 ghost use Rattle.relay_move.specs.Move.{lent, Moved};
 
 use halves::Flags;
@@ -29,7 +29,7 @@ fn flags_of(
 ) -> Flags
     requires sized { Sized n k words.now floats.now × Room n k words.now floats.now node.0 }
     requires steps_bound { (steps ≤ 3) × (taken ≤ 1) × (longer ≤ 1) }
-    ensures { NextFlags k equal e (listIn n k words.now floats.now node.0) (stageIn steps (eqb taken 1) (eqb longer 1)) result }
+    ensures { NextFlags k equal e (list_in n k words.now floats.now node.0) (stage_in steps (eqb taken 1) (eqb longer 1)) result }
 {
     let room = k + 64;
     let w = node.0 as usize;
@@ -63,7 +63,7 @@ fn list_step(
 )
     requires sized { Sized n k words.old floats.old × Room n k words.old floats.old node.0 }
     requires steps_bound { (steps ≤ 3) × (steps ≡ 1 → taken ≡ 1 → get_or words.old (n * (k + 64) + node.0) 0 < k + 64) }
-    ensures { ListStepped n k words.old floats.old node.0 e (stageIn steps (eqb taken 1) (eqb longer 1)) words.new floats.new }
+    ensures { ListStepped n k words.old floats.old node.0 e (stage_in steps (eqb taken 1) (eqb longer 1)) words.new floats.new }
 {
     let room = k + 64;
     let w = node.0 as usize;
@@ -116,8 +116,8 @@ fn move_half(
 /// The next step of job `job`, which is not finished: of its first half, or where that is done of its second
 /// (hora's `update`, one of the eight steps that its locks leave whole).
 fn step(words: &mut [u32], floats: &mut [f32], n: usize, k: usize, job: usize)
-    requires sized { Sized n k words.old floats.old × (relayFormed n k words.old floats.old ≡ true) }
-    requires job_in_bounds { (job < length (relayIn n k words.old floats.old).jobs) × (isFinished (jobAt (relayIn n k words.old floats.old) job) ≡ false) }
+    requires sized { Sized n k words.old floats.old × (relay_formed n k words.old floats.old ≡ true) }
+    requires job_in_bounds { (job < length (relay_in n k words.old floats.old).jobs) × (is_finished (job_at (relay_in n k words.old floats.old) job) ≡ false) }
     ensures { Stepped n k words.old floats.old job words.new floats.new }
 {
     let at = n * (k + 64) + n + 1 + 15 * job;
@@ -134,7 +134,7 @@ fn step(words: &mut [u32], floats: &mut [f32], n: usize, k: usize, job: usize)
 /// Row 6 of the state: whether its words or its floats have the wrong length.
 fn wrong_state(n: usize, k: usize, words: usize, floats: usize) -> bool
     requires { (n ≤ 1024) × (k ≤ 64) }
-    ensures { result ≡ any_of holds (notExactly (relayWords n k) words ∷ notExactly (relayFloats n k) floats ∷ []) }
+    ensures { result ≡ any_of holds (not_exactly (relay_words n k) words ∷ not_exactly (relay_floats n k) floats ∷ []) }
 {
     if words != n * (k + 65) + 1024 {
         return true;
@@ -144,8 +144,8 @@ fn wrong_state(n: usize, k: usize, words: usize, floats: usize) -> bool
 
 /// Whether job `job` is absent, or has its eight steps done.
 fn no_step(words: &[u32], n: usize, k: usize, job: usize) -> bool
-    requires { (n ≤ 1024) × (k ≤ 64) × (length words.now ≡ relayWords n k) × (get_or words.now (n * (k + 64) + n) 0 ≤ 64) }
-    ensures { result ≡ noStep n k words.now job }
+    requires { (n ≤ 1024) × (k ≤ 64) × (length words.now ≡ relay_words n k) × (get_or words.now (n * (k + 64) + n) 0 ≤ 64) }
+    ensures { result ≡ no_step n k words.now job }
 {
     let jobs = n * (k + 64) + n;
     let count = words[jobs] as usize;
@@ -157,7 +157,7 @@ fn no_step(words: &[u32], n: usize, k: usize, job: usize) -> bool
 
 /// The rows of the table.
 fn judge(n: usize, k: usize, job: usize, words: &[u32], floats: &[f32]) -> Answer
-    ensures { decisionOf result ≡ decide (moveTable (lent n k job words.now floats.now)) }
+    ensures { decision_of result ≡ decide (move_table (lent n k job words.now floats.now)) }
 {
     if table::outside(2, 1024, n) {
         return Answer::Refused(Refusal::Nodes);

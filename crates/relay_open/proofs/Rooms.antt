@@ -11,7 +11,7 @@ use Rattle.rules.specs.Loops.{each, part, over}
 use Rattle.rules.specs.Places.{padded}
 use Rattle.rules.proofs.Loops.{length-each, part-each}
 use Rattle.rules.proofs.Places.{length-padded}
-use Rattle.relay_close.proofs.Blocks.{Blocks, blocks-none, blocks-turn, blocks_end}
+use Rattle.relay_close.proofs.Blocks.{Blocks, blocks_none, blocks_turn, blocks_end}
 
 module _ {A : Type 0} (z : A) where
   -- the first k over the room, and m places from k on zeroed
@@ -39,8 +39,8 @@ module _ {A : Type 0} (z : A) where
     wide : (w : ℕ) → length (padded (k + 64) z (part k w src)) ≡ k + 64
     wide w = length-padded (k + 64) z (part k w src) (let e = short-part w in omega arith)
 
-    pub rooms-long : length rooms ≡ n * (k + 64)
-    rooms-long = length-each (λ (w : ℕ). padded (k + 64) z (part k w src)) (k + 64) wide n
+    pub rooms_long : length rooms ≡ n * (k + 64)
+    rooms_long = length-each (λ (w : ℕ). padded (k + 64) z (part k w src)) (k + 64) wide n
 
     pub record Where (w : ℕ) : Type 0 where
       pub read : w * k + k ≤ n * k
@@ -48,8 +48,8 @@ module _ {A : Type 0} (z : A) where
       pub small : n * (k + 64) ≤ 131072
       pub less : n * k ≤ 65536
 
-    pub where-is : (w : ℕ) → w < n → Where w
-    where-is w h =
+    pub where_is : (w : ℕ) → w < n → Where w
+    where_is w h =
         let s = suc-mul w k in
         let t = suc-mul w (k + 64) in
         let a : suc w * k ≤ n * k = mul-le-mul_right k h in
@@ -58,26 +58,26 @@ module _ {A : Type 0} (z : A) where
         let d : n * k ≤ 1024 * 64 = mul-le-mul few size in
         record { read = omega arith; written = omega arith; small = omega arith; less = omega arith }
 
-    pub rooms-none : (dst : List A) → length dst ≡ n * (k + 64) → Blocks rooms (k + 64) 0 dst
-    rooms-none dst h = blocks-none rooms (k + 64) dst (h ∙ sym rooms-long)
+    pub rooms_none : (dst : List A) → length dst ≡ n * (k + 64) → Blocks rooms (k + 64) 0 dst
+    rooms_none dst h = blocks_none rooms (k + 64) dst (h ∙ sym rooms_long)
 
-    pub rooms-turn : {w : ℕ} {dst ys : List A} → Blocks rooms (k + 64) w dst → w < n → (m p : ℕ) → m ≡ k → p ≡ k + 64
+    pub rooms_turn : {w : ℕ} {dst ys : List A} → Blocks rooms (k + 64) w dst → w < n → (m p : ℕ) → m ≡ k → p ≡ k + 64
         → ys ≡ padded (length (take p (drop (w * (k + 64)) dst))) z (take k (take m (drop (w * k) src))) → Blocks rooms (k + 64) (w + 1) (put_mid (w * (k + 64)) p dst ys)
     unfolding part
-    rooms-turn {w} {dst} {ys} inv h m p cut wideP made =
-        let x = where-is w h in
+    rooms_turn {w} {dst} {ys} inv h m p cut wide_p made =
+        let x = where_is w h in
         let read = x.read in
         let written = x.written in
         let l = inv.long in
-        let g = rooms-long in
-        let a : length (take p (drop (w * (k + 64)) dst)) ≡ k + 64 = length-take-le p (drop (w * (k + 64)) dst) (simp length-drop (omega arith)) ∙ wideP in
+        let g = rooms_long in
+        let a : length (take p (drop (w * (k + 64)) dst)) ≡ k + 64 = length-take-le p (drop (w * (k + 64)) dst) (simp length-drop (omega arith)) ∙ wide_p in
         let same : ys ≡ padded (k + 64) z (part k w src) =
         made ∙ ap (λ (i : ℕ). padded i z (take k (take m (drop (w * k) src)))) a
         ∙ ap (λ (i : ℕ). padded (k + 64) z (take k (take i (drop (w * k) src)))) cut ∙ ap (padded (k + 64) z) (take-take k k (drop (w * k) src) (omega arith)) in
-        blocks-turn inv p ys wideP (omega arith) (ap length same ∙ wide w) (same ∙ sym (part-each (λ (v : ℕ). padded (k + 64) z (part k v src)) (k + 64) wide w n h))
+        blocks_turn inv p ys wide_p (omega arith) (ap length same ∙ wide w) (same ∙ sym (part-each (λ (v : ℕ). padded (k + 64) z (part k v src)) (k + 64) wide w n h))
 
-    pub rooms-end : {w : ℕ} {dst : List A} → n ≤ w → Blocks rooms (k + 64) w dst → dst ≡ rooms
-    rooms-end {w} h inv =
+    pub rooms_end : {w : ℕ} {dst : List A} → n ≤ w → Blocks rooms (k + 64) w dst → dst ≡ rooms
+    rooms_end {w} h inv =
         let m : n * (k + 64) ≤ w * (k + 64) = mul-le-mul_right (k + 64) h in
-        let g = rooms-long in
+        let g = rooms_long in
         blocks_end inv (omega arith)

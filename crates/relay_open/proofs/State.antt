@@ -11,21 +11,21 @@ use Rattle.rules.specs.declared.Neighbor.{Neighbor}
 use Rattle.rules.specs.Loops.{each, part}
 use Rattle.rules.specs.Distance.{zero32}
 use Rattle.rules.specs.Lists.{entries}
-use Rattle.rules.specs.Refusals.{jobCount}
+use Rattle.rules.specs.Refusals.{job_count}
 use Rattle.rules.specs.Build.{Between}
 use Rattle.rules.specs.Relay.{Relay, job_of, opened}
-use Rattle.rules.specs.Places.{padded, listsIn}
-use Rattle.rules.specs.RelayPlaces.{roomWords, roomFloats, lengthsOf, jobsWords, relayState, relayStateFloats}
-use Rattle.rules.proofs.Loops.{length-ones, getD-ones, each-alike}
-use Rattle.lists.proofs.Slices.{length-entries, nodesOf-entries, distancesOf-entries}
+use Rattle.rules.specs.Places.{padded, lists_in}
+use Rattle.rules.specs.RelayPlaces.{room_words, room_floats, lengths_of, jobs_words, relay_state, relay_state_floats}
+use Rattle.rules.proofs.Loops.{length-ones, get_d_ones, each-alike}
+use Rattle.lists.proofs.Slices.{length-entries, nodes_of-entries, distances_of-entries}
 use Rattle.buffers.proofs.Places.{put-length}
-use Rattle.encoded.proofs.Lists.{room-words, room_floats, wordRow, floatRow, length-lengths, length_at}
+use Rattle.encoded.proofs.Lists.{room-words, room_floats_lem, word_row, float_row, length-lengths, length_at}
 use Rattle.encoded.proofs.Rows.{length_part}
 use Rattle.relay_state.specs.State.{Sized}
 use Rattle.relay_state.proofs.Parts.{sizes}
 use Rattle.relay_state.proofs.Reading.{joined-ones}
-use Rattle.relay_open.specs.Open.{firstJobs, JobsWritten, ListsPut, DistsPut, StateWritten}
-use Rattle.relay_open.proofs.Rooms.{rooms-long}
+use Rattle.relay_open.specs.Open.{first_jobs, JobsWritten, ListsPut, DistsPut, StateWritten}
+use Rattle.relay_open.proofs.Rooms.{rooms_long}
 
 module _ {A : Type 0} where
   -- the last part
@@ -44,97 +44,97 @@ module _ (n k : ℕ) (us : List ℕ) (fs : List Float) (lu : length us ≡ n * k
   abbrev list : ℕ → List Neighbor
   list w = entries k (part k w us) (part k w fs)
 
-  pub rooms-are : roomWords (k + 64) (listsIn n k us fs) ≡ each (λ (w : ℕ). padded (k + 64) 0 (part k w us)) n
-  unfolding listsIn
-  rooms-are =
-      room-words (k + 64) (each (λ (w : ℕ). list w ∷ []) n) ∙ joined-ones (wordRow (k + 64)) list n
-      ∙ each-alike (λ (w : ℕ). wordRow (k + 64) (list w)) (λ (w : ℕ). padded (k + 64) 0 (part k w us)) n (λ (w : ℕ) (h : w < n).
+  pub rooms_are : room_words (k + 64) (lists_in n k us fs) ≡ each (λ (w : ℕ). padded (k + 64) 0 (part k w us)) n
+  unfolding lists_in
+  rooms_are =
+      room-words (k + 64) (each (λ (w : ℕ). list w ∷ []) n) ∙ joined-ones (word_row (k + 64)) list n
+      ∙ each-alike (λ (w : ℕ). word_row (k + 64) (list w)) (λ (w : ℕ). padded (k + 64) 0 (part k w us)) n (λ (w : ℕ) (h : w < n).
       let a = length_part k n w us lu h in
       let b = length_part k n w fs lf h in
-      ap (padded (k + 64) 0) (nodesOf-entries k (part k w us) (part k w fs) (omega arith) ∙ take_all k (part k w us) (omega arith)))
+      ap (padded (k + 64) 0) (nodes_of-entries k (part k w us) (part k w fs) (omega arith) ∙ take_all k (part k w us) (omega arith)))
 
-  pub floats-are : roomFloats (k + 64) (listsIn n k us fs) ≡ each (λ (w : ℕ). padded (k + 64) zero32 (part k w fs)) n
-  unfolding listsIn
-  floats-are =
-      room_floats (k + 64) (each (λ (w : ℕ). list w ∷ []) n) ∙ joined-ones (floatRow (k + 64)) list n
-      ∙ each-alike (λ (w : ℕ). floatRow (k + 64) (list w)) (λ (w : ℕ). padded (k + 64) zero32 (part k w fs)) n (λ (w : ℕ) (h : w < n).
+  pub floats_are : room_floats (k + 64) (lists_in n k us fs) ≡ each (λ (w : ℕ). padded (k + 64) zero32 (part k w fs)) n
+  unfolding lists_in
+  floats_are =
+      room_floats_lem (k + 64) (each (λ (w : ℕ). list w ∷ []) n) ∙ joined-ones (float_row (k + 64)) list n
+      ∙ each-alike (λ (w : ℕ). float_row (k + 64) (list w)) (λ (w : ℕ). padded (k + 64) zero32 (part k w fs)) n (λ (w : ℕ) (h : w < n).
       let a = length_part k n w us lu h in
       let b = length_part k n w fs lf h in
-      ap (padded (k + 64) zero32) (distancesOf-entries k (part k w us) (part k w fs) (omega arith) ∙ take_all k (part k w fs) (omega arith)))
+      ap (padded (k + 64) zero32) (distances_of-entries k (part k w us) (part k w fs) (omega arith) ∙ take_all k (part k w fs) (omega arith)))
 
-  pub lengths-are : lengthsOf (listsIn n k us fs) ≡ replicate n k
-  unfolding listsIn
-  lengths-are =
+  pub lengths_are : lengths_of (lists_in n k us fs) ≡ replicate n k
+  unfolding lists_in
+  lengths_are =
       let ls = each (λ (w : ℕ). list w ∷ []) n in
       let a = length-ones list n in
       let b = length-lengths ls in
       let c = length-replicate n k in
-      ext_get_or 0 (lengthsOf ls) (replicate n k) (omega arith) (λ (w : ℕ) h.
+      ext_get_or 0 (lengths_of ls) (replicate n k) (omega arith) (λ (w : ℕ) h.
       let below : w < n = omega arith in
       let d = length_part k n w us lu below in
       let e = length_part k n w fs lf below in
-      length_at ls w (omega arith) ∙ ap length (getD-ones list n w [] below) ∙ length-entries k (part k w us) (part k w fs) (omega arith) (omega arith)
+      length_at ls w (omega arith) ∙ ap length (get_d_ones list n w [] below) ∙ length-entries k (part k w us) (part k w fs) (omega arith) (omega arith)
       ∙ sym (get_or-replicate n w k 0 below))
 
   module _ (d : Between) (jobs : List ℕ) {ws : List ℕ} {xs : List Float} (z : Sized n k ws xs) {ws' : List ℕ} {xs' : List Float} (lists : ListsPut n k us ws ws') (dists : DistsPut n k fs xs xs') where
     abbrev r : Relay
-    r = opened d (listsIn n k us fs) jobs
+    r = opened d (lists_in n k us fs) jobs
 
     -- what is left for the jobs
     pub jobs-room : (c f : ℕ) → c ≡ length ws' - (n * (k + 64) + n) → f ≡ length xs' - n * (k + 64) → (c ≡ 1024) × (f ≡ 64)
     jobs-room c f hc hf =
         let s = sizes z in
         let w = s.all_words in
-        let x = s.all-floats in
+        let x = s.all_floats in
         let a = lists.long in
         let b = dists.long in
         (omega arith, omega arith)
 
-    pub state-written : {C : List ℕ} {E : List Float} (c f : ℕ) → c ≡ 1024 → f ≡ 64 → JobsWritten d jobs (jobCount jobs) C E
+    pub state-written : {C : List ℕ} {E : List Float} (c f : ℕ) → c ≡ 1024 → f ≡ 64 → JobsWritten d jobs (job_count jobs) C E
         → StateWritten k r (put_mid (n * (k + 64) + n) c ws' C) (put_mid (n * (k + 64)) f xs' E)
-    unfolding relayState relayStateFloats opened
+    unfolding relay_state relay_state_floats opened
     state-written {C} {E} c f hc hf w =
         let s = sizes z in
         let aw = s.all_words in
-        let af = s.all-floats in
+        let af = s.all_floats in
         let la = lists.long in
         let lb = dists.long in
         let A = each (λ (w : ℕ). padded (k + 64) 0 (part k w us)) n in
         let B = replicate n k in
         let D = each (λ (w : ℕ). padded (k + 64) zero32 (part k w fs)) n in
-        let cnt = length-ones (job_of d jobs) (jobCount jobs) in
+        let cnt = length-ones (job_of d jobs) (job_count jobs) in
         record {
           words_are =
               put_last (n * (k + 64) + n) c ws' C (A ++ B) lists.front (omega arith) ∙ append_assoc A B C
-              ∙ ap (λ (l : List ℕ). l ++ (B ++ C)) (sym rooms-are)
-              ∙ ap (λ (l : List ℕ). roomWords (k + 64) (listsIn n k us fs) ++ (l ++ C)) (sym lengths-are)
-              ∙ ap (λ (l : List ℕ). roomWords (k + 64) (listsIn n k us fs) ++ (lengthsOf (listsIn n k us fs) ++ l))
-              (w.words ∙ ap (λ (m : ℕ). padded 1024 0 (m ∷ jobsWords (firstJobs d jobs (jobCount jobs)))) (sym cnt));
-          floats-are =
+              ∙ ap (λ (l : List ℕ). l ++ (B ++ C)) (sym rooms_are)
+              ∙ ap (λ (l : List ℕ). room_words (k + 64) (lists_in n k us fs) ++ (l ++ C)) (sym lengths_are)
+              ∙ ap (λ (l : List ℕ). room_words (k + 64) (lists_in n k us fs) ++ (lengths_of (lists_in n k us fs) ++ l))
+              (w.words ∙ ap (λ (m : ℕ). padded 1024 0 (m ∷ jobs_words (first_jobs d jobs (job_count jobs)))) (sym cnt));
+          floats_are =
               put_last (n * (k + 64)) f xs' E D dists.front (omega arith)
-              ∙ ap (λ (l : List Float). l ++ E) (sym floats-are)
-              ∙ ap (λ (l : List Float). roomFloats (k + 64) (listsIn n k us fs) ++ l) w.floats;
+              ∙ ap (λ (l : List Float). l ++ E) (sym floats_are)
+              ∙ ap (λ (l : List Float). room_floats (k + 64) (lists_in n k us fs) ++ l) w.floats;
         }
 
 -- ---- the rooms in front of the state
 
 module _ (n k : ℕ) (few : n ≤ 1024) (size : k ≤ 64) where
   pub dists-put : (fs xs D : List Float) (e : ℕ) → length fs ≡ n * k → n * (k + 64) ≤ length xs → e ≡ n * (k + 64) → D ≡ each (λ (w : ℕ). padded (k + 64) zero32 (part k w fs)) n → DistsPut n k fs xs (put_mid 0 e xs D)
-  dists-put fs xs D e lf room he mD =
-      let lD : length D ≡ n * (k + 64) = ap length mD ∙ rooms-long zero32 n k few size fs lf in
-      record { front = take_at D (drop e xs) (n * (k + 64)) lD ∙ mD; long = length-append D (drop e xs) ∙ (let q = length-drop e xs in omega arith) }
+  dists-put fs xs D e lf room he m_d =
+      let l_d : length D ≡ n * (k + 64) = ap length m_d ∙ rooms_long zero32 n k few size fs lf in
+      record { front = take_at D (drop e xs) (n * (k + 64)) l_d ∙ m_d; long = length-append D (drop e xs) ∙ (let q = length-drop e xs in omega arith) }
 
   pub lists-put : (us ws A B : List ℕ) (a b : ℕ) → length us ≡ n * k → n * (k + 64) + n ≤ length ws → a ≡ n * (k + 64) → b ≡ n → A ≡ each (λ (w : ℕ). padded (k + 64) 0 (part k w us)) n
       → B ≡ replicate (length (take b (drop (n * (k + 64)) (put_mid 0 a ws A)))) k → ListsPut n k us ws (put_mid (n * (k + 64)) b (put_mid 0 a ws A) B)
-  lists-put us ws A B a b lu room ha hb mA mB =
+  lists-put us ws A B a b lu room ha hb m_a m_b =
       let lens = n * (k + 64) in
       let one = put_mid 0 a ws A in
-      let lA : length A ≡ lens = ap length mA ∙ rooms-long 0 n k few size us lu in
+      let l_a : length A ≡ lens = ap length m_a ∙ rooms_long 0 n k few size us lu in
       let long1 : length one ≡ length ws = length-append A (drop a ws) ∙ (let q = length-drop a ws in omega arith) in
-      let B-is : B ≡ replicate n k = mB ∙ ap (λ (i : ℕ). replicate i k) (length-take-le b (drop lens one) (simp length-drop (omega arith)) ∙ hb) in
-      let lB : length B ≡ n = ap length B-is ∙ length-replicate n k in
-      let front1 : take lens one ≡ A = take_at A (drop a ws) lens lA in
+      let B-is : B ≡ replicate n k = m_b ∙ ap (λ (i : ℕ). replicate i k) (length-take-le b (drop lens one) (simp length-drop (omega arith)) ∙ hb) in
+      let l_b : length B ≡ n = ap length B-is ∙ length-replicate n k in
+      let front1 : take lens one ≡ A = take_at A (drop a ws) lens l_a in
       record {
-        front = ap (λ (i : ℕ). take (lens + n) (put_mid lens i one B)) hb ∙ take_put lens n one B A front1 lA lB ∙ ap (λ (l : List ℕ). l ++ B) mA ∙ ap (λ (l : List ℕ). each (λ (w : ℕ). padded (k + 64) 0 (part k w us)) n ++ l) B-is;
-        long = put-length lens b one B (omega arith) (lB ∙ sym hb) ∙ long1;
+        front = ap (λ (i : ℕ). take (lens + n) (put_mid lens i one B)) hb ∙ take_put lens n one B A front1 l_a l_b ∙ ap (λ (l : List ℕ). l ++ B) m_a ∙ ap (λ (l : List ℕ). each (λ (w : ℕ). padded (k + 64) 0 (part k w us)) n ++ l) B-is;
+        long = put-length lens b one B (omega arith) (l_b ∙ sym hb) ∙ long1;
       }

@@ -2,9 +2,9 @@
 ghost use Rattle.std.specs.Prelude.{◌≡◌, cond, ◌+◌, ◌*◌, ◌≤◌, ◌<◌, eqb, length, take, replicate};
 ghost use Rattle.rules.specs.Loops.{each, part};
 ghost use Rattle.rules.specs.Distance.{zero32, between};
-ghost use Rattle.rules.specs.Refusals.{jobCount};
+ghost use Rattle.rules.specs.Refusals.{job_count};
 ghost use Rattle.rules.specs.Relay.{opened};
-ghost use Rattle.rules.specs.Places.{padded, listsIn};
+ghost use Rattle.rules.specs.Places.{padded, lists_in};
 ghost use Rattle.relay_state.specs.State.{Sized};
 ghost use Rattle.relay_open.specs.Open.{JobsIn, JobsWritten, ListsPut, DistsPut, StateWritten};
 
@@ -95,7 +95,7 @@ fn write_jobs(
 )
     requires lanes_len { (length lanes.now ≡ n * dimension) × JobsIn n jobs.now }
     requires words_len { (length words.old ≡ 1024) × (length floats.old ≡ 64) }
-    ensures { JobsWritten (between lanes.now dimension) jobs.now (jobCount jobs.now) words.new floats.new }
+    ensures { JobsWritten (between lanes.now dimension) jobs.now (job_count jobs.now) words.new floats.new }
 {
     buffers::zero_words(words);
     buffers::zero_floats(floats);
@@ -147,7 +147,7 @@ pub fn write_state(
 )
     requires lanes_len { (length lanes.now ≡ n * dimension) × JobsIn n jobs.now × Sized n k words.old floats.old }
     requires nodes_len { (length nodes.now ≡ n * k) × (length distances.now ≡ n * k) }
-    ensures { StateWritten k (opened (between lanes.now dimension) (listsIn n k nodes.now distances.now) jobs.now) words.new floats.new }
+    ensures { StateWritten k (opened (between lanes.now dimension) (lists_in n k nodes.now distances.now) jobs.now) words.new floats.new }
 {
     let lens = n * (k + 64);
     let base = lens + n;

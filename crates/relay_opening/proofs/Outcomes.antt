@@ -7,54 +7,54 @@ use lib.Ieee.{Float}
 use Rattle.rules.specs.declared.Answer.{Answer}
 use Rattle.rules.specs.declared.Answer.TheVariants.{Done, Refused}
 use Rattle.rules.specs.declared.Refusal.{Refusal}
-use Rattle.rules.specs.Distance.{nodesApart, zero32}
-use Rattle.rules.specs.Refusals.{passed, decide, decisionOf, said_of}
-use Rattle.rules.specs.Offers.{listsFormed}
-use Rattle.rules.specs.Places.{listsIn}
-use Rattle.rules.specs.RelayCall.{OpenLent, OpenOutcome, openTable, openedOn, openObeys, openRule}
+use Rattle.rules.specs.Distance.{nodes_apart, zero32}
+use Rattle.rules.specs.Refusals.{passed, decide, decision_of, said_of}
+use Rattle.rules.specs.Offers.{lists_formed}
+use Rattle.rules.specs.Places.{lists_in}
+use Rattle.rules.specs.RelayCall.{OpenLent, OpenOutcome, open_table, opened_on, open_obeys, open_rule}
 use Rattle.rules.proofs.Answers.{same_answer}
 use Rattle.relay_open.specs.Open.{StateWritten}
-use Rattle.relay_opening.specs.Opening.{openLeft, Opened}
+use Rattle.relay_opening.specs.Opening.{open_left, Opened}
 use Rattle.relay_opening.proofs.Table.{Ready, ready}
 
 module _ (l : OpenLent) where
-  pub open-refused : {a : Answer} {r : Refusal} → decisionOf a ≡ decide (openTable l) → a ≡ Refused r → Opened l (Refused r) l.state-u l.state-f l.scratch-u l.scratch-f
-  unfolding openRule openObeys said_of decisionOf
-  open-refused {a} {r} e f = record { whole = ap (openObeys l) (sym (ap decisionOf f) ∙ e) }
+  pub open_refused : {a : Answer} {r : Refusal} → decision_of a ≡ decide (open_table l) → a ≡ Refused r → Opened l (Refused r) l.state_u l.state_f l.scratch_u l.scratch_f
+  unfolding open_rule open_obeys said_of decision_of
+  open_refused {a} {r} e f = record { whole = ap (open_obeys l) (sym (ap decision_of f) ∙ e) }
 
-  pub no_row : {a : Answer} → decisionOf a ≡ decide (openTable l) → a ≡ Done → decide (openTable l) ≡ passed
-  unfolding decisionOf
-  no_row e f = sym e ∙ ap decisionOf f
+  pub no_row : {a : Answer} → decision_of a ≡ decide (open_table l) → a ≡ Done → decide (open_table l) ≡ passed
+  unfolding decision_of
+  no_row e f = sym e ∙ ap decision_of f
 
-  pub open-ready : decide (openTable l) ≡ passed → Ready l.dimension l.n (length l.lanes) l.k (length l.nodes) (length l.distances) l.jobs (length l.state-u) (length l.state-f)
-  unfolding openTable
-  open-ready h = ready (length l.jobs) (length l.scratch-u) (length l.scratch-f) (nodesApart l.lanes l.dimension) (listsFormed l.n (listsIn l.n l.k l.nodes l.distances)) h
+  pub open_ready : decide (open_table l) ≡ passed → Ready l.dimension l.n (length l.lanes) l.k (length l.nodes) (length l.distances) l.jobs (length l.state_u) (length l.state_f)
+  unfolding open_table
+  open_ready h = ready (length l.jobs) (length l.scratch_u) (length l.scratch_f) (nodes_apart l.lanes l.dimension) (lists_formed l.n (lists_in l.n l.k l.nodes l.distances)) h
 
-  pub open_done : {us su : List ℕ} {fs sf : List Float} → decide (openTable l) ≡ passed → StateWritten l.k (openedOn l) us fs → su ≡ replicate (length l.scratch-u) 0 → sf ≡ replicate (length l.scratch-f) zero32
+  pub open_done : {us su : List ℕ} {fs sf : List Float} → decide (open_table l) ≡ passed → StateWritten l.k (opened_on l) us fs → su ≡ replicate (length l.scratch_u) 0 → sf ≡ replicate (length l.scratch_f) zero32
       → Opened l Done us fs su sf
-  unfolding openRule openObeys said_of
+  unfolding open_rule open_obeys said_of
   open_done {us} {su} {fs} {sf} e s p q =
       let a = s.words_are in
-      let b = s.floats-are in
+      let b = s.floats_are in
       record { whole = rw (e, a, b, p, q) }
 
 -- ---- "show that any two outcomes it allows are equal"
 
 pub record Same (a b : Answer) (us us' : List ℕ) (fs fs' : List Float) (su su' : List ℕ) (sf sf' : List Float) : Type 0 where
   pub answer : a ≡ b
-  pub state-u : us ≡ us'
-  pub state-f : fs ≡ fs'
-  pub scratch-u : su ≡ su'
-  pub scratch-f : sf ≡ sf'
+  pub state_u : us ≡ us'
+  pub state_f : fs ≡ fs'
+  pub scratch_u : su ≡ su'
+  pub scratch_f : sf ≡ sf'
 
-pub two-outcomes : (l : OpenLent) (a b : Answer) (us us' : List ℕ) (fs fs' : List Float) (su su' : List ℕ) (sf sf' : List Float)
+pub two_outcomes : (l : OpenLent) (a b : Answer) (us us' : List ℕ) (fs fs' : List Float) (su su' : List ℕ) (sf sf' : List Float)
     → Opened l a us fs su sf → Opened l b us' fs' su' sf' → Same a b us us' fs fs' su su' sf sf'
-two-outcomes l a b us us' fs fs' su su' sf sf' p q =
-    let e : openLeft a us fs su sf ≡ openLeft b us' fs' su' sf' = p.whole ∙ sym q.whole in
+two_outcomes l a b us us' fs fs' su su' sf sf' p q =
+    let e : open_left a us fs su sf ≡ open_left b us' fs' su' sf' = p.whole ∙ sym q.whole in
     record {
       answer = same_answer a b (ap (λ (o : OpenOutcome). o.said) e);
-      state-u = ap (λ (o : OpenOutcome). o.state-u) e;
-      state-f = ap (λ (o : OpenOutcome). o.state-f) e;
-      scratch-u = ap (λ (o : OpenOutcome). o.scratch-u) e;
-      scratch-f = ap (λ (o : OpenOutcome). o.scratch-f) e;
+      state_u = ap (λ (o : OpenOutcome). o.state_u) e;
+      state_f = ap (λ (o : OpenOutcome). o.state_f) e;
+      scratch_u = ap (λ (o : OpenOutcome). o.scratch_u) e;
+      scratch_f = ap (λ (o : OpenOutcome). o.scratch_f) e;
     }

@@ -1,11 +1,11 @@
 // The entry `open` of a relay: the refusal table, the state written, and scratch zeroed.
 ghost use Rattle.std.specs.Prelude.{◌≡◌, [], ◌∷◌, ◌*◌, ◌≤◌, length};
 ghost use Rattle.rules.specs.Loops.{any_of};
-ghost use Rattle.rules.specs.Distance.{nodesApart};
-ghost use Rattle.rules.specs.Refusals.{decide, decisionOf, holds, notExactly, lessThan};
-ghost use Rattle.rules.specs.Calls.{scratch, odd, relayWords, relayFloats, taughtScratch, open_rows};
-ghost use Rattle.rules.specs.Offers.{listsFormed};
-ghost use Rattle.rules.specs.Places.{listsIn};
+ghost use Rattle.rules.specs.Distance.{nodes_apart};
+ghost use Rattle.rules.specs.Refusals.{decide, decision_of, holds, not_exactly, less_than};
+ghost use Rattle.rules.specs.Calls.{scratch, odd, relay_words, relay_floats, taught_scratch, open_rows};
+ghost use Rattle.rules.specs.Offers.{lists_formed};
+ghost use Rattle.rules.specs.Places.{lists_in};
 ghost use Rattle.relay_opening.specs.Opening.{lent, Opened};
 
 use rules::{Answer, Refusal};
@@ -13,7 +13,7 @@ use rules::{Answer, Refusal};
 /// Row 6, of what is lent to read: whether the lists or the jobs have the wrong length.
 fn wrong_lists(n: usize, k: usize, nodes: usize, distances: usize, jobs: usize) -> bool
     requires { (n ≤ 1024) × (k ≤ 64) }
-    ensures { result ≡ any_of holds (notExactly (n * k) nodes ∷ notExactly (n * k) distances ∷ odd jobs ∷ []) }
+    ensures { result ≡ any_of holds (not_exactly (n * k) nodes ∷ not_exactly (n * k) distances ∷ odd jobs ∷ []) }
 {
     if nodes != n * k {
         return true;
@@ -27,7 +27,7 @@ fn wrong_lists(n: usize, k: usize, nodes: usize, distances: usize, jobs: usize) 
 /// Row 6, of what is lent to write: whether the state or scratch has the wrong length.
 fn wrong_places(n: usize, k: usize, words: usize, floats: usize, su: usize, sf: usize) -> bool
     requires { (n ≤ 1024) × (k ≤ 64) }
-    ensures { result ≡ any_of holds (notExactly (relayWords n k) words ∷ notExactly (relayFloats n k) floats ∷ lessThan (taughtScratch n) su ∷ lessThan (taughtScratch n) sf ∷ []) }
+    ensures { result ≡ any_of holds (not_exactly (relay_words n k) words ∷ not_exactly (relay_floats n k) floats ∷ less_than (taught_scratch n) su ∷ less_than (taught_scratch n) sf ∷ []) }
 {
     if words != n * (k + 65) + 1024 {
         return true;
@@ -56,7 +56,7 @@ fn judge(
     su: usize,
     sf: usize,
 ) -> Answer
-    ensures { decisionOf result ≡ decide (open_rows dimension n (length lanes.now) k (length nodes.now) (length distances.now) jobs.now (length jobs.now) words floats (scratch su sf) (nodesApart lanes.now dimension) (listsFormed n (listsIn n k nodes.now distances.now))) }
+    ensures { decision_of result ≡ decide (open_rows dimension n (length lanes.now) k (length nodes.now) (length distances.now) jobs.now (length jobs.now) words floats (scratch su sf) (nodes_apart lanes.now dimension) (lists_formed n (lists_in n k nodes.now distances.now))) }
 {
     let g = table::game(dimension, 1024, n, lanes.len());
     let Answer::Done = g else {

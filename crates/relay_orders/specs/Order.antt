@@ -56,8 +56,8 @@ lane_of x =
     (cond (x == 5) 0x40A00000
     (cond (x == 6) 0x40C00000 0x40E00000)))))))
 
-abbrev pub laneFrom : ℕ → Float
-laneFrom x = lane_of (x / 536870912)
+abbrev pub lane_from : ℕ → Float
+lane_from x = lane_of (x / 536870912)
 
 -- Shuffled by 512 draws, if it is no longer than that
 unfoldable pub shuffled : ℕ → List ℕ → List ℕ

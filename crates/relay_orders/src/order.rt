@@ -1,6 +1,6 @@
 // Orders of a relay's moves: each job eight times.
 ghost use Rattle.std.specs.Prelude.{◌≡◌, ◌*◌, ◌≤◌, length};
-ghost use Rattle.relay_orders.specs.Order.{remainder, job_of, small, ruled, after, drawn, below, lane_of, laneFrom, shuffled, order_of};
+ghost use Rattle.relay_orders.specs.Order.{remainder, job_of, small, ruled, after, drawn, below, lane_of, lane_from, shuffled, order_of};
 
 // The remainder, and 0 where there are no jobs.
 fn remainder(a: u32, count: u32) -> u32
@@ -89,7 +89,7 @@ fn lane_of(x: u32) -> f32
 
 /// Fills lanes with whole numbers from 0 to 7, from a seed: many distances are equal.
 pub fn fill_lanes(lanes: &mut [f32], seed: u32)
-    ensures { lanes.new ≡ drawn laneFrom (length lanes.old) (after seed) }
+    ensures { lanes.new ≡ drawn lane_from (length lanes.old) (after seed) }
 {
     let mut i: usize = 0;
     let mut x = after(seed);

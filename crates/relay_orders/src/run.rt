@@ -1,7 +1,7 @@
 // A whole relay: opened, moved in an order and closed into the lists that were lent to it; counts the calls that are refused.
 ghost use Rattle.std.specs.Prelude.{◌≡◌};
 ghost use Rattle.rules.specs.Refusals.{said_of};
-ghost use Rattle.relay_orders.specs.Run.{refusedIn, ran, relayed, opened_of, movedBy, relayedIn, whole_of};
+ghost use Rattle.relay_orders.specs.Run.{refused_in, ran, relayed, opened_of, moved_by, relayed_in, whole_of};
 
 use rules::Answer;
 
@@ -9,7 +9,7 @@ use rules::Answer;
 const JUNK: u32 = 0xCDCD_CDCD;
 
 fn refused(answer: Answer) -> u32
-    ensures { result ≡ refusedIn (said_of answer) }
+    ensures { result ≡ refused_in (said_of answer) }
 {
     match answer {
         Answer::Done => 0,
@@ -48,7 +48,7 @@ fn opened(
 }
 
 fn moved(n: usize, k: usize, order: &[u32], words: &mut [u32], floats: &mut [f32]) -> u32
-    ensures { ran words.new floats.new result ≡ movedBy n k order.now (ran words.old floats.old 0) }
+    ensures { ran words.new floats.new result ≡ moved_by n k order.now (ran words.old floats.old 0) }
 {
     let mut i: usize = 0;
     let mut count: u32 = 0;
@@ -72,7 +72,7 @@ fn in_state(
     dists: &mut [f32],
     reports: &mut [u32],
 ) -> u32
-    ensures { relayed result nodes.new dists.new reports.new ≡ relayedIn n k words.old floats.old lanes.now jobs.now order.now nodes.old dists.old reports.old }
+    ensures { relayed result nodes.new dists.new reports.new ≡ relayed_in n k words.old floats.old lanes.now jobs.now order.now nodes.old dists.old reports.old }
 {
     let a = opened(n, k, lanes, nodes, dists, jobs, words, floats);
     let b = moved(n, k, order, words, floats);

@@ -1,6 +1,6 @@
 // The sets of jobs: those of square I, and those that are drawn.
 ghost use Rattle.std.specs.Prelude.{◌≡◌};
-ghost use Rattle.relay_orders.specs.Sets.{lanesOfSquare, jobsOfSquare, drawnGame};
+ghost use Rattle.relay_orders.specs.Sets.{lanes_of_square, jobs_of_square, drawn_game};
 
 /// A game that is drawn: its nodes, the length of its lists, and the seeds of its lanes, of its first jobs and of the further ones.
 #[derive(Drop)]
@@ -14,21 +14,21 @@ pub struct Game {
 
 /// The lanes of square I.
 pub fn square_lanes() -> [f32; 4]
-    ensures { result ≡ lanesOfSquare }
+    ensures { result ≡ lanes_of_square }
 {
     [0.0, 1.0, 3.0, 7.0]
 }
 
 /// The jobs of square I.
 pub fn square_jobs() -> [u32; 6]
-    ensures { result ≡ jobsOfSquare }
+    ensures { result ≡ jobs_of_square }
 {
     [0, 1, 0, 3, 0, 2]
 }
 
 /// The drawn game of this number.
 pub fn drawn(number: u32) -> Game
-    ensures { result ≡ drawnGame number }
+    ensures { result ≡ drawn_game number }
 {
     Game {
         n: 6,

@@ -1,7 +1,7 @@
 // How the orders of the sets came out: the lists that each ended in, counted where they differ.
 ghost use Rattle.std.specs.Prelude.{◌≡◌};
 ghost use Rattle.relay_orders.specs.Run.{sum};
-ghost use Rattle.relay_orders.specs.Tally.{unfilledLists, no_order, apartBy, withSet, withOrder};
+ghost use Rattle.relay_orders.specs.Tally.{unfilled_lists, no_order, apart_by, with_set, with_order};
 
 /// The distance of an unfilled entry, 0x7F7FFFFF by its bits.
 pub const EMPTY: f32 = 340282346638528859811704183484516925440.0;
@@ -31,7 +31,7 @@ pub struct Tally {
 
 /// Unfilled lists of a game of `n` nodes.
 pub fn unfilled(n: u32) -> Lists
-    ensures { result ≡ unfilledLists n }
+    ensures { result ≡ unfilled_lists n }
 {
     Lists {
         nodes: [n; 24],
@@ -59,7 +59,7 @@ fn more(a: u32, b: u32) -> u32
 
 // 1 where the lists differ, and 0 where they are the same.
 fn differ(a: Lists, b: Lists) -> u32
-    ensures { result ≡ apartBy a b }
+    ensures { result ≡ apart_by a b }
 {
     let nodes = a.nodes;
     let dists = a.dists;
@@ -76,7 +76,7 @@ fn differ(a: Lists, b: Lists) -> u32
 
 /// One set more.
 pub fn with_set(t: Tally) -> Tally
-    ensures { result ≡ withSet t }
+    ensures { result ≡ with_set t }
 {
     Tally {
         sets: more(t.sets, 1),
@@ -88,7 +88,7 @@ pub fn with_set(t: Tally) -> Tally
 
 /// One order more of a set whose first ended in `first`.
 pub fn with_order(t: Tally, first: Lists, e: Outcome) -> Tally
-    ensures { result ≡ withOrder t first e }
+    ensures { result ≡ with_order t first e }
 {
     let lists = e.lists;
     Tally {

@@ -14,14 +14,14 @@ use Rattle.rules.specs.Loops.{each, part}
 use Rattle.rules.specs.Distance.{zero32}
 use Rattle.rules.specs.Numbers.{outside}
 use Rattle.rules.specs.Lists.{entries}
-use Rattle.rules.specs.Offers.{listFormed}
+use Rattle.rules.specs.Offers.{list_formed}
 use Rattle.rules.specs.Relay.{Job}
-use Rattle.rules.specs.RelayPlaces.{jobIn, relayIn, pendingAt}
+use Rattle.rules.specs.RelayPlaces.{job_in, relay_in, pending_at}
 use Rattle.lists.proofs.Plain.{to_end}
 use Rattle.zeros.specs.Zeros.{zeros, all_below}
-use Rattle.zeros.proofs.Laws.{all-turn, all-not}
-use Rattle.jobs.specs.Jobs.{jobTest, PendingJob}
-use Rattle.relay_state.specs.State.{Sized, jobsTest, jobsOf, PendingAll, roomTest, room_at}
+use Rattle.zeros.proofs.Laws.{all_turn, all-not}
+use Rattle.jobs.specs.Jobs.{job_test, PendingJob}
+use Rattle.relay_state.specs.State.{Sized, jobs_test, jobs_of, PendingAll, room_test, room_at}
 
 module _ {A : Type 0} where
   -- a place that is there is read, whatever would stand for an absent one
@@ -39,58 +39,58 @@ each_same {A} f g e (suc m) = ap (λ (l : List A). l ++ f m) (each_same f g e m)
 -- ---- the jobs
 
 module _ (n : ℕ) (js : List ℕ) (xs : List Float) where
-  abbrev pub jobOk : ℕ → Bool
-  jobOk i = jobTest n (drop (1 + 15 * i) js) (get_or xs i zero32)
+  abbrev pub job_ok : ℕ → Bool
+  job_ok i = job_test n (drop (1 + 15 * i) js) (get_or xs i zero32)
 
   -- the words that are lent, and the distance that is read
-  lent-job : (i : ℕ) → i < length xs → jobTest n (take (length js - (1 + 15 * i)) (drop (1 + 15 * i) js)) (get_or xs i nan) ≡ jobOk i
-  lent-job i h = ap (λ (ws : List ℕ). jobTest n ws (get_or xs i nan)) (to_end (1 + 15 * i) js) ∙ ap (jobTest n (drop (1 + 15 * i) js)) (get_d_any xs i nan zero32 h)
+  lent-job : (i : ℕ) → i < length xs → job_test n (take (length js - (1 + 15 * i)) (drop (1 + 15 * i) js)) (get_or xs i nan) ≡ job_ok i
+  lent-job i h = ap (λ (ws : List ℕ). job_test n ws (get_or xs i nan)) (to_end (1 + 15 * i) js) ∙ ap (job_test n (drop (1 + 15 * i) js)) (get_d_any xs i nan zero32 h)
 
   module _ (count i : ℕ) (few : count ≤ 64) (long : length xs ≡ 64) where
-    pub job-not : i < count → jobTest n (take (length js - (1 + 15 * i)) (drop (1 + 15 * i) js)) (get_or xs i nan) ≡ false → false ≡ all_below jobOk count
-    job-not h e = sym (all-not jobOk count i h (sym (lent-job i (omega arith)) ∙ e))
+    pub job-not : i < count → job_test n (take (length js - (1 + 15 * i)) (drop (1 + 15 * i) js)) (get_or xs i nan) ≡ false → false ≡ all_below job_ok count
+    job-not h e = sym (all-not job_ok count i h (sym (lent-job i (omega arith)) ∙ e))
 
-    pub job-turn : i < count → all_below jobOk i ≡ true → jobTest n (take (length js - (1 + 15 * i)) (drop (1 + 15 * i) js)) (get_or xs i nan) ≡ true → all_below jobOk (i + 1) ≡ true
-    job-turn h inv e = all-turn jobOk i inv (sym (lent-job i (omega arith)) ∙ e)
+    pub job_turn : i < count → all_below job_ok i ≡ true → job_test n (take (length js - (1 + 15 * i)) (drop (1 + 15 * i) js)) (get_or xs i nan) ≡ true → all_below job_ok (i + 1) ≡ true
+    job_turn h inv e = all_turn job_ok i inv (sym (lent-job i (omega arith)) ∙ e)
 
-    pub job-end : i ≤ count → count ≤ i → all_below jobOk i ≡ true → true ≡ all_below jobOk count
-    job-end h g inv = let end : i ≡ count = omega arith in sym inv ∙ ap (all_below jobOk) end
+    pub job-end : i ≤ count → count ≤ i → all_below job_ok i ≡ true → true ≡ all_below job_ok count
+    job-end h g inv = let end : i ≡ count = omega arith in sym inv ∙ ap (all_below job_ok) end
 
   abbrev count : ℕ
   count = get_or js 0 0
 
-  pub by_count : outside 1 64 count ≡ true → false ≡ jobsTest n js xs
-  unfolding jobsTest
+  pub by_count : outside 1 64 count ≡ true → false ≡ jobs_test n js xs
+  unfolding jobs_test
   by_count h = rw h
 
   module _ (within : outside 1 64 count ≡ false) where
-    pub by-job : all_below jobOk count ≡ false → false ≡ jobsTest n js xs
-    unfolding jobsTest
-    by-job h = rw (within, h)
+    pub by_job : all_below job_ok count ≡ false → false ≡ jobs_test n js xs
+    unfolding jobs_test
+    by_job h = rw (within, h)
 
-    module _ (good : all_below jobOk count ≡ true) where
-      pub by-words : zeros (drop (1 + 15 * count) js) ≡ false → false ≡ jobsTest n js xs
-      unfolding jobsTest
-      by-words h = rw (within, good, h)
+    module _ (good : all_below job_ok count ≡ true) where
+      pub by_words : zeros (drop (1 + 15 * count) js) ≡ false → false ≡ jobs_test n js xs
+      unfolding jobs_test
+      by_words h = rw (within, good, h)
 
-      pub by-floats : zeros (drop (1 + 15 * count) js) ≡ true → zeros (map (to_bits binary32) (drop count xs)) ≡ jobsTest n js xs
-      unfolding jobsTest
-      by-floats h = rw (within, good, h)
+      pub by_floats : zeros (drop (1 + 15 * count) js) ≡ true → zeros (map (to_bits binary32) (drop count xs)) ≡ jobs_test n js xs
+      unfolding jobs_test
+      by_floats h = rw (within, good, h)
 
 -- ---- what is pending
 
-pending-append : (w : ℕ) (a b : List Job) → pendingAt w (a ++ b) ≡ pendingAt w a + pendingAt w b
-unfolding pendingAt
+pending-append : (w : ℕ) (a b : List Job) → pending_at w (a ++ b) ≡ pending_at w a + pending_at w b
+unfolding pending_at
 pending-append w [] b = omega arith
 pending-append w (j ∷ a) b = let h = pending-append w a b in omega arith
 
-pub pending-start : (js : List ℕ) (w : ℕ) → PendingAll js 0 w 0
-unfolding pendingAt each
-pending-start js w = record { is = λ (x : ℕ → Float). refl; few = omega arith }
+pub pending_start : (js : List ℕ) (w : ℕ) → PendingAll js 0 w 0
+unfolding pending_at each
+pending_start js w = record { is = λ (x : ℕ → Float). refl; few = omega arith }
 
-pub pending-turn : {js : List ℕ} {i w r s : ℕ} → PendingAll js i w r → PendingJob (take (length js - (1 + 15 * i)) (drop (1 + 15 * i) js)) w s → PendingAll js (i + 1) w (r + s)
-unfolding pendingAt each
-pending-turn {js} {i} {w} {r} {s} inv made =
+pub pending_turn : {js : List ℕ} {i w r s : ℕ} → PendingAll js i w r → PendingJob (take (length js - (1 + 15 * i)) (drop (1 + 15 * i) js)) w s → PendingAll js (i + 1) w (r + s)
+unfolding pending_at each
+pending_turn {js} {i} {w} {r} {s} inv made =
     let m : PendingJob (drop (1 + 15 * i) js) w s = rw (to_end (1 + 15 * i) js) at made in
     let f = inv.few in
     let g = made.few in
@@ -98,7 +98,7 @@ pending-turn {js} {i} {w} {r} {s} inv made =
       is = λ (x : ℕ → Float).
           let p = inv.is x in
           let q = m.is (x i) in
-          rw add-one (sym (pending-append w (jobsOf js x i) (jobIn (drop (1 + 15 * i) js) (x i) ∷ []) ∙ omega arith));
+          rw add-one (sym (pending-append w (jobs_of js x i) (job_in (drop (1 + 15 * i) js) (x i) ∷ []) ∙ omega arith));
       few = omega arith;
     }
 
@@ -108,28 +108,28 @@ pending-end {js} {i} {count} {w} {r} h g inv = let end : i ≡ count = omega ari
 -- ---- one room
 
 module _ (n want len : ℕ) (ns : List ℕ) (ds : List Float) where
-  pub by_length : (len ≡ want → ⊥) → false ≡ roomTest n want len ns ds
-  unfolding roomTest
+  pub by_length : (len ≡ want → ⊥) → false ≡ room_test n want len ns ds
+  unfolding room_test
   by_length h = rw (ne_eqb len want h)
 
   module _ (same : len ≡ want) where
-    pub by-room : length ns < len → false ≡ roomTest n want len ns ds
-    unfolding roomTest
-    by-room h = rw (eq-eqb len want same, lt-leb len (length ns) h)
+    pub by_room : length ns < len → false ≡ room_test n want len ns ds
+    unfolding room_test
+    by_room h = rw (eq-eqb len want same, lt-leb len (length ns) h)
 
     module _ (fits : len ≤ length ns) where
-      pub by-nodes : zeros (drop len ns) ≡ false → false ≡ roomTest n want len ns ds
-      unfolding roomTest
-      by-nodes h = rw (eq-eqb len want same, le-leb len (length ns) fits, h)
+      pub by_nodes : zeros (drop len ns) ≡ false → false ≡ room_test n want len ns ds
+      unfolding room_test
+      by_nodes h = rw (eq-eqb len want same, le-leb len (length ns) fits, h)
 
       module _ (free : zeros (drop len ns) ≡ true) where
-        pub by-dists : zeros (map (to_bits binary32) (drop len ds)) ≡ false → false ≡ roomTest n want len ns ds
-        unfolding roomTest
-        by-dists h = rw (eq-eqb len want same, le-leb len (length ns) fits, free, h)
+        pub by_dists : zeros (map (to_bits binary32) (drop len ds)) ≡ false → false ≡ room_test n want len ns ds
+        unfolding room_test
+        by_dists h = rw (eq-eqb len want same, le-leb len (length ns) fits, free, h)
 
-        pub by-list : zeros (map (to_bits binary32) (drop len ds)) ≡ true → listFormed n (entries len ns ds) ≡ roomTest n want len ns ds
-        unfolding roomTest
-        by-list h = rw (eq-eqb len want same, le-leb len (length ns) fits, free, h)
+        pub by_list : zeros (map (to_bits binary32) (drop len ds)) ≡ true → list_formed n (entries len ns ds) ≡ room_test n want len ns ds
+        unfolding room_test
+        by_list h = rw (eq-eqb len want same, le-leb len (length ns) fits, free, h)
 
 -- ---- where things lie
 
@@ -139,7 +139,7 @@ pub record Sizes (n k words floats : ℕ) : Type 0 where
   pub nodes : n ≤ 1024
   pub jobs : n * (k + 65) ≡ n * (k + 64) + n
   pub all_words : words ≡ n * (k + 64) + n + 1024
-  pub all-floats : floats ≡ n * (k + 64) + 64
+  pub all_floats : floats ≡ n * (k + 64) + 64
 
 pub sizes : {n k : ℕ} {us : List ℕ} {fs : List Float} → Sized n k us fs → Sizes n k (length us) (length fs)
 sizes {n} {k} {us} {fs} z =
@@ -149,7 +149,7 @@ sizes {n} {k} {us} {fs} z =
     let product : n * (k + 64) ≤ 1024 * 128 = mul-le-mul z.nodes room in
     let w = z.words in
     let f = z.floats in
-    record { room = room; lists = omega arith; nodes = z.nodes; jobs = one; all_words = omega arith; all-floats = f }
+    record { room = room; lists = omega arith; nodes = z.nodes; jobs = one; all_words = omega arith; all_floats = f }
 
 -- job i's words, from the number of jobs on
 pub from-jobs : {n k words floats : ℕ} → Sizes n k words floats → (us : List ℕ) (i : ℕ) → drop (n * (k + 65) + 1 + 15 * i) us ≡ drop (1 + 15 * i) (drop (n * (k + 64) + n) us)
@@ -173,27 +173,27 @@ inside {n} {k} {us} {fs} w z h =
 
 module _ {n k : ℕ} {us : List ℕ} {fs : List Float} (z : Sized n k us fs) (count : ℕ) (few : count ≤ 64) (is : count ≡ get_or us (n * (k + 65)) 0) where
   -- the jobs that the relay is read with
-  read-jobs : (relayIn n k us fs).jobs ≡ jobsOf (drop (n * (k + 64) + n) us) (λ (i : ℕ). get_or fs (n * (k + 64) + i) zero32) count
-  unfolding relayIn
+  read-jobs : (relay_in n k us fs).jobs ≡ jobs_of (drop (n * (k + 64) + n) us) (λ (i : ℕ). get_or fs (n * (k + 64) + i) zero32) count
+  unfolding relay_in
   read-jobs =
       let m : min 64 (get_or us (n * (k + 65)) 0) ≡ count = omega arith in
-      ap (each (λ (i : ℕ). jobIn (drop (n * (k + 65) + 1 + 15 * i) us) (get_or fs (n * (k + 64) + i) zero32) ∷ [])) m
-      ∙ each_same _ _ (λ (i : ℕ). ap (λ (ws : List ℕ). jobIn ws (get_or fs (n * (k + 64) + i) zero32) ∷ []) (from-jobs (sizes z) us i)) count
+      ap (each (λ (i : ℕ). job_in (drop (n * (k + 65) + 1 + 15 * i) us) (get_or fs (n * (k + 64) + i) zero32) ∷ [])) m
+      ∙ each_same _ _ (λ (i : ℕ). ap (λ (ws : List ℕ). job_in ws (get_or fs (n * (k + 64) + i) zero32) ∷ []) (from-jobs (sizes z) us i)) count
 
   module _ (w m p : ℕ) (below : w < n) (cut : m ≡ k + 64) (asked : PendingAll (take (length us - (n * (k + 64) + n)) (drop (n * (k + 64) + n) us)) count w p) where
-    lent-room : roomTest n (k + p) (get_or us (n * (k + 64) + w) 0) (take m (drop (w * (k + 64)) us)) (take m (drop (w * (k + 64)) fs)) ≡ room_at n k us fs w
+    lent-room : room_test n (k + p) (get_or us (n * (k + 64) + w) 0) (take m (drop (w * (k + 64)) us)) (take m (drop (w * (k + 64)) fs)) ≡ room_at n k us fs w
     unfolding room_at part
     lent-room =
         let a : PendingAll (drop (n * (k + 64) + n) us) count w p = rw (to_end (n * (k + 64) + n) us) at asked in
-        let same : p ≡ pendingAt w (relayIn n k us fs).jobs = a.is (λ (i : ℕ). get_or fs (n * (k + 64) + i) zero32) ∙ ap (pendingAt w) (sym read-jobs) in
+        let same : p ≡ pending_at w (relay_in n k us fs).jobs = a.is (λ (i : ℕ). get_or fs (n * (k + 64) + i) zero32) ∙ ap (pending_at w) (sym read-jobs) in
         rw (cut, same)
 
-    pub room-not : roomTest n (k + p) (get_or us (n * (k + 64) + w) 0) (take m (drop (w * (k + 64)) us)) (take m (drop (w * (k + 64)) fs)) ≡ false → false ≡ all_below (room_at n k us fs) n
+    pub room-not : room_test n (k + p) (get_or us (n * (k + 64) + w) 0) (take m (drop (w * (k + 64)) us)) (take m (drop (w * (k + 64)) fs)) ≡ false → false ≡ all_below (room_at n k us fs) n
     room-not e = sym (all-not (room_at n k us fs) n w below (sym lent-room ∙ e))
 
-    pub room-turn : all_below (room_at n k us fs) w ≡ true → roomTest n (k + p) (get_or us (n * (k + 64) + w) 0) (take m (drop (w * (k + 64)) us)) (take m (drop (w * (k + 64)) fs)) ≡ true
+    pub room_turn : all_below (room_at n k us fs) w ≡ true → room_test n (k + p) (get_or us (n * (k + 64) + w) 0) (take m (drop (w * (k + 64)) us)) (take m (drop (w * (k + 64)) fs)) ≡ true
         → all_below (room_at n k us fs) (w + 1) ≡ true
-    room-turn inv e = all-turn (room_at n k us fs) w inv (sym lent-room ∙ e)
+    room_turn inv e = all_turn (room_at n k us fs) w inv (sym lent-room ∙ e)
 
 pub room-end : (n k w : ℕ) (us : List ℕ) (fs : List Float) → w ≤ n → n ≤ w → all_below (room_at n k us fs) w ≡ true → true ≡ all_below (room_at n k us fs) n
 room-end n k w us fs h g inv = let end : w ≡ n = omega arith in sym inv ∙ ap (all_below (room_at n k us fs)) end

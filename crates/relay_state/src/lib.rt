@@ -1,17 +1,17 @@
 // Whether a relay's state is well formed: its jobs, and the room of each list.
 ghost use Rattle.std.specs.Prelude.{◌≡◌, ◌+◌, ◌*◌, ◌≤◌, length, drop, get_or};
 ghost use Rattle.rules.specs.Distance.{zero32};
-ghost use Rattle.rules.specs.RelayPlaces.{relayFormed};
+ghost use Rattle.rules.specs.RelayPlaces.{relay_formed};
 ghost use Rattle.zeros.specs.Zeros.{all_below};
-ghost use Rattle.jobs.specs.Jobs.{jobTest};
-ghost use Rattle.relay_state.specs.State.{jobsTest, PendingAll, roomTest, room_at, Sized};
+ghost use Rattle.jobs.specs.Jobs.{job_test};
+ghost use Rattle.relay_state.specs.State.{jobs_test, PendingAll, room_test, room_at, Sized};
 
 use rules::NodeId;
 
 /// Whether each of the first `count` jobs is well formed: 15 words a job, from place 1 on.
 fn each_formed(jobs: &[u32], dists: &[f32], count: usize, n: usize) -> bool
     requires { (count ≤ 64) × (length jobs.now ≡ 1024) × (length dists.now ≡ 64) }
-    ensures { result ≡ all_below (λ i. jobTest n (drop (1 + 15 * i) jobs.now) (get_or dists.now i zero32)) count }
+    ensures { result ≡ all_below (λ i. job_test n (drop (1 + 15 * i) jobs.now) (get_or dists.now i zero32)) count }
 {
     let mut i = 0;
     while i < count {
@@ -27,7 +27,7 @@ fn each_formed(jobs: &[u32], dists: &[f32], count: usize, n: usize) -> bool
 /// Whether the number of jobs, the jobs, and what lies behind them are well formed.
 fn jobs_formed(jobs: &[u32], dists: &[f32], n: usize) -> bool
     requires { (length jobs.now ≡ 1024) × (length dists.now ≡ 64) }
-    ensures { result ≡ jobsTest n jobs.now dists.now }
+    ensures { result ≡ jobs_test n jobs.now dists.now }
 {
     let count = jobs[0] as usize;
     if table::outside(1, 64, count) {
@@ -60,7 +60,7 @@ fn pending_at(jobs: &[u32], count: usize, w: NodeId) -> usize
 /// Whether a list's room is well formed: `want` entries and no more, the list, and zeros behind it.
 fn room_formed(nodes: &[u32], dists: &[f32], len: usize, want: usize, n: usize) -> bool
     requires { length dists.now ≡ length nodes.now }
-    ensures { result ≡ roomTest n want len nodes.now dists.now }
+    ensures { result ≡ room_test n want len nodes.now dists.now }
 {
     if len != want {
         return false;
@@ -102,7 +102,7 @@ fn rooms_formed(words: &[u32], floats: &[f32], n: usize, k: usize, count: usize)
 /// Row 12 of a move and a close: whether a relay's state is well formed.
 pub fn relay_formed(words: &[u32], floats: &[f32], n: usize, k: usize) -> bool
     requires { Sized n k words.now floats.now }
-    ensures { result ≡ relayFormed n k words.now floats.now }
+    ensures { result ≡ relay_formed n k words.now floats.now }
 {
     let lens = n * (k + 64);
     let jobs = lens + n;

@@ -1,7 +1,7 @@
 // The common ground of the programs over a relay: places inside a state, and floats by their bits.
 ghost use Rattle.std.specs.Prelude.{◌≡◌, length, slice_set};
-ghost use Rattle.cases.specs.Text.{wordsAt, behind};
-ghost use Rattle.relays.specs.Places.{sum, listAt, length_at, jobAt, wordsLong, floatsLong};
+ghost use Rattle.cases.specs.Text.{words_at, behind};
+ghost use Rattle.relays.specs.Places.{sum, list_at, length_at, job_at, words_long, floats_long};
 ghost use Rattle.relays.specs.Bits.{bits_of, agreeing};
 
 use cases::Cursor;
@@ -22,7 +22,7 @@ pub fn index(word: u32) -> usize
 
 /// Where node `node`'s list starts, in the words and in the floats.
 pub fn list_at(k: usize, node: usize) -> usize
-    ensures { result ≡ listAt k node }
+    ensures { result ≡ list_at k node }
 {
     cases::area(node, sum(k, 64))
 }
@@ -36,21 +36,21 @@ pub fn length_at(n: usize, k: usize, node: usize) -> usize
 
 /// The first of job `job`'s 15 words; the number of jobs stands in front of the first job.
 pub fn job_at(n: usize, k: usize, job: usize) -> usize
-    ensures { result ≡ jobAt n k job }
+    ensures { result ≡ job_at n k job }
 {
     sum(cases::area(n, sum(k, 65)), sum(1, cases::area(15, job)))
 }
 
 /// How many words a state is.
 pub fn words_long(n: usize, k: usize) -> usize
-    ensures { result ≡ wordsLong n k }
+    ensures { result ≡ words_long n k }
 {
     sum(cases::area(n, sum(k, 65)), 1024)
 }
 
 /// How many floats a state is.
 pub fn floats_long(n: usize, k: usize) -> usize
-    ensures { result ≡ floatsLong n k }
+    ensures { result ≡ floats_long n k }
 {
     sum(cases::area(n, sum(k, 64)), 64)
 }
@@ -67,7 +67,7 @@ pub fn bits_of(x: f32) -> u32
 
 /// Compares the bits of our floats with the next numbers of a list.
 pub fn compare_bits(text: &[u8], c: Cursor, ours: &[f32]) -> Compared
-    ensures at_value { result.at ≡ agreeing ours.now (wordsAt (length ours.now) text.now c) }
+    ensures at_value { result.at ≡ agreeing ours.now (words_at (length ours.now) text.now c) }
     ensures cursor_value { result.cursor ≡ behind (length ours.now) text.now c }
 {
     let mut i: usize = 0;

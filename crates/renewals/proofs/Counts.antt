@@ -11,27 +11,27 @@ use lib.ListN.{length, drop, get_or, replicate, length-append, length-replicate,
 use Rattle.rules.specs.declared.Neighbor.{Neighbor}
 use Rattle.rules.specs.Loops.{turns, each}
 use Rattle.rules.specs.Lists.{node_of}
-use Rattle.rules.specs.Descent.{Renewed, renew, renewAll, isVisited, listAt, newOf, old_of, shuffle, keptNew, membersBack}
+use Rattle.rules.specs.Descent.{Renewed, renew, renew_all, is_visited, list_at, new_of, old_of, shuffle, kept_new, members_back}
 use Rattle.shuffles.proofs.Laws.{length-shuffle, drawn-few}
-use Rattle.renews.specs.Renews.{renewedTo}
-use Rattle.renews.proofs.All.{grown-low, grown-last, renewed-long}
+use Rattle.renews.specs.Renews.{renewed_to}
+use Rattle.renews.proofs.All.{grown_low, grown_last, renewed-long}
 use Rattle.descent_kept.proofs.Lists.{Lists}
 
 -- ---- one list is split, shuffled and cut
 
-split-few : (n i : ℕ) (flags : List Bool) (es : List Neighbor) → length (newOf n i flags es) + length (old_of n i flags es) ≤ length es
-unfolding newOf old_of
-split-few n i flags [] = omega arith
-split-few n i flags (e ∷ es) = go (eqb (node_of e) n) (isVisited n i (node_of e) flags) (split-few n i flags es)
+split_few : (n i : ℕ) (flags : List Bool) (es : List Neighbor) → length (new_of n i flags es) + length (old_of n i flags es) ≤ length es
+unfolding new_of old_of
+split_few n i flags [] = omega arith
+split_few n i flags (e ∷ es) = go (eqb (node_of e) n) (is_visited n i (node_of e) flags) (split_few n i flags es)
   where
-    go : (a b : Bool) → length (newOf n i flags es) + length (old_of n i flags es) ≤ length es
-        → length (cond (not a && b) (node_of e ∷ newOf n i flags es) (newOf n i flags es)) + length (cond (not a && not b) (node_of e ∷ old_of n i flags es) (old_of n i flags es)) ≤ suc (length es)
+    go : (a b : Bool) → length (new_of n i flags es) + length (old_of n i flags es) ≤ length es
+        → length (cond (not a && b) (node_of e ∷ new_of n i flags es) (new_of n i flags es)) + length (cond (not a && not b) (node_of e ∷ old_of n i flags es) (old_of n i flags es)) ≤ suc (length es)
     go true b h = omega arith
     go false true h = omega arith
     go false false h = omega arith
 
-kept-few : (draws : List ℕ) (s at : ℕ) (xs : List ℕ) → length (keptNew draws s at xs) ≤ length xs
-unfolding keptNew
+kept-few : (draws : List ℕ) (s at : ℕ) (xs : List ℕ) → length (kept_new draws s at xs) ≤ length xs
+unfolding kept_new
 kept-few draws s at xs = go (ltb s (length xs))
   where
     go : (b : Bool) → length (cond b (drop s (shuffle draws at xs)) xs) ≤ length xs
@@ -41,44 +41,44 @@ kept-few draws s at xs = go (ltb s (length xs))
 -- ---- all of them
 
 -- lists that grow at their end by one each turn
-grown-at : (ls : ℕ → List (List ℕ)) (y : ℕ → List ℕ) → ((i : ℕ) → length (ls i) ≡ i) → ((i : ℕ) → ls (suc i) ≡ ls i ++ (y i ∷ [])) → (i j : ℕ) → j < i → get_or (ls i) j [] ≡ y j
-grown-at ls y long more zero j h = absurd (omega arith)
-grown-at ls y long more (suc i) j h = ap (λ (l : List (List ℕ)). get_or l j []) (more i) ∙ go (ltb j i) refl (λ c. grown-at ls y long more i j c)
+grown_at : (ls : ℕ → List (List ℕ)) (y : ℕ → List ℕ) → ((i : ℕ) → length (ls i) ≡ i) → ((i : ℕ) → ls (suc i) ≡ ls i ++ (y i ∷ [])) → (i j : ℕ) → j < i → get_or (ls i) j [] ≡ y j
+grown_at ls y long more zero j h = absurd (omega arith)
+grown_at ls y long more (suc i) j h = ap (λ (l : List (List ℕ)). get_or l j []) (more i) ∙ go (ltb j i) refl (λ c. grown_at ls y long more i j c)
   where
     go : (b : Bool) → ltb j i ≡ b → (j < i → get_or (ls i) j [] ≡ y j) → get_or (ls i ++ (y i ∷ [])) j [] ≡ y j
-    go true b before = let c = ltb-true j i b in grown-low (ls i) i (long i) (y i) j c ∙ before c
+    go true b before = let c = ltb-true j i b in grown_low (ls i) i (long i) (y i) j c ∙ before c
     go false b before =
         let c = ltb-false j i b in
         let e : j ≡ i = omega arith in
-        rw e (grown-last (ls i) i (long i) (y i))
+        rw e (grown_last (ls i) i (long i) (y i))
 
 -- each node's number once per member, of the first m nodes
-abbrev pub backTo : List (List ℕ) → ℕ → List ℕ
-backTo members m = each (λ (i : ℕ). replicate (length (get_or members i [])) i) m
+abbrev pub back_to : List (List ℕ) → ℕ → List ℕ
+back_to members m = each (λ (i : ℕ). replicate (length (get_or members i [])) i) m
 
-back_more : (members : List (List ℕ)) (m : ℕ) → length (backTo members (suc m)) ≡ length (backTo members m) + length (get_or members m [])
+back_more : (members : List (List ℕ)) (m : ℕ) → length (back_to members (suc m)) ≡ length (back_to members m) + length (get_or members m [])
 unfolding each
 back_more members m =
-    length-append (backTo members m) (replicate (length (get_or members m [])) m)
-    ∙ ap (λ (c : ℕ). length (backTo members m) + c) (length-replicate (length (get_or members m [])) m)
+    length-append (back_to members m) (replicate (length (get_or members m [])) m)
+    ∙ ap (λ (c : ℕ). length (back_to members m) + c) (length-replicate (length (get_or members m [])) m)
 
 module _ (draws : List ℕ) (n k s : ℕ) (flags : List Bool) (lists : List (List Neighbor)) (L : Lists n k lists) where
   abbrev to : ℕ → Renewed
-  to i = renewedTo draws n s flags lists i
+  to i = renewed_to draws n s flags lists i
 
   abbrev found : ℕ → List ℕ
-  found i = newOf n i flags (listAt lists i)
+  found i = new_of n i flags (list_at lists i)
 
-  news-at : (j : ℕ) → j < n → get_or (to n).news j [] ≡ keptNew draws s (to j).at (found j)
+  news-at : (j : ℕ) → j < n → get_or (to n).news j [] ≡ kept_new draws s (to j).at (found j)
   unfolding turns renew
-  news-at j h = grown-at (λ (i : ℕ). (to i).news) (λ (i : ℕ). keptNew draws s (to i).at (found i)) (λ (i : ℕ). (renewed-long draws n s flags lists i).news) (λ (i : ℕ). refl) n j h
+  news-at j h = grown_at (λ (i : ℕ). (to i).news) (λ (i : ℕ). kept_new draws s (to i).at (found i)) (λ (i : ℕ). (renewed-long draws n s flags lists i).news) (λ (i : ℕ). refl) n j h
 
-  olds-at : (j : ℕ) → j < n → get_or (to n).olds j [] ≡ old_of n j flags (listAt lists j)
+  olds-at : (j : ℕ) → j < n → get_or (to n).olds j [] ≡ old_of n j flags (list_at lists j)
   unfolding turns renew
-  olds-at j h = grown-at (λ (i : ℕ). (to i).olds) (λ (i : ℕ). old_of n i flags (listAt lists i)) (λ (i : ℕ). (renewed-long draws n s flags lists i).olds) (λ (i : ℕ). refl) n j h
+  olds-at j h = grown_at (λ (i : ℕ). (to i).olds) (λ (i : ℕ). old_of n i flags (list_at lists i)) (λ (i : ℕ). (renewed-long draws n s flags lists i).olds) (λ (i : ℕ). refl) n j h
 
   -- the members of the first m nodes, and the draws used for them
-  few-to : (m : ℕ) → m ≤ n → ((to m).at + length (backTo (to n).olds m) ≤ m * k) × (length (backTo (to n).news m) ≤ m * k)
+  few-to : (m : ℕ) → m ≤ n → ((to m).at + length (back_to (to n).olds m) ≤ m * k) × (length (back_to (to n).news m) ≤ m * k)
   unfolding turns renew each
   few-to zero h = (omega arith, omega arith)
   few-to (suc m) h =
@@ -86,7 +86,7 @@ module _ (draws : List ℕ) (n k s : ℕ) (flags : List Bool) (lists : List (Lis
       let a = r.0 in
       let b = r.1 in
       let e = suc-mul m k in
-      let both = split-few n m flags (listAt lists m) in
+      let both = split_few n m flags (list_at lists m) in
       let long = L.long m h in
       let d = drawn-few s (to m).at (found m) in
       let c = kept-few draws s (to m).at (found m) in
@@ -97,13 +97,13 @@ module _ (draws : List ℕ) (n k s : ℕ) (flags : List Bool) (lists : List (Lis
       (rw e (omega arith), rw e (omega arith))
 
   abbrev all : Renewed
-  all = renewAll draws n s flags lists
+  all = renew_all draws n s flags lists
 
   -- draws for the reversed-old list, behind those for the new lists
-  pub olds-few : (w : ℕ) → all.at + length (membersBack n all.olds w) ≤ n * k
-  unfolding renewAll membersBack
+  pub olds-few : (w : ℕ) → all.at + length (members_back n all.olds w) ≤ n * k
+  unfolding renew_all members_back
   olds-few w = (few-to n (omega arith)).0
 
-  pub news-few : (w : ℕ) → length (membersBack n all.news w) ≤ n * k
-  unfolding renewAll membersBack
+  pub news-few : (w : ℕ) → length (members_back n all.news w) ≤ n * k
+  unfolding renew_all members_back
   news-few w = (few-to n (omega arith)).1

@@ -7,16 +7,16 @@ use Rattle.replay_build.specs.declared.shape.Shape.{Shape}
 
 module _ (text : List ℕ) where
   -- "`init_k`; L = `index_size`; `neighbor_neighbor_size`; threshold bits"
-  unfoldable pub taughtAt : ℕ → ℕ → Cursor → Shape
-  taughtAt dimension n c =
-      let init-k = size_at 64 text c in
-      let row = size_at 64 text init-k.cursor in
+  unfoldable pub taught_at : ℕ → ℕ → Cursor → Shape
+  taught_at dimension n c =
+      let init_k = size_at 64 text c in
+      let row = size_at 64 text init_k.cursor in
       let hops = size_at 256 text row.cursor in
       let threshold = word_at text hops.cursor in
       record {
         dimension = dimension;
         n = n;
-        params = params (float_of threshold.value) init-k.value row.value hops.value;
+        params = params (float_of threshold.value) init_k.value row.value hops.value;
         cursor = threshold.cursor;
       }
 
@@ -24,4 +24,4 @@ module _ (text : List ℕ) where
   shape_at c =
       let d = size_at 64 text c in
       let n = size_at 256 text d.cursor in
-      taughtAt d.value n.value n.cursor
+      taught_at d.value n.value n.cursor

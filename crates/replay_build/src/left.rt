@@ -1,13 +1,13 @@
 // What a build left, beside the list's.
 ghost use Rattle.std.specs.Prelude.{◌≡◌};
-ghost use Rattle.replay_build.specs.Left.{behindSteps, besideAt};
+ghost use Rattle.replay_build.specs.Left.{behind_steps, beside_at};
 
 use cases::Cursor;
 use tallies::Outcome;
 
 // Passes the lists after steps 1, 4 and 5: the graph says what they led to.
 fn pass_steps(text: &[u8], c: Cursor, n: usize, graph_long: usize) -> Cursor
-    ensures { result ≡ behindSteps text.now n graph_long c }
+    ensures { result ≡ behind_steps text.now n graph_long c }
 {
     let exact = kinds::pass_runs(text, c, n);
     cases::pass(text, exact, cases::area(4, graph_long))
@@ -15,7 +15,7 @@ fn pass_steps(text: &[u8], c: Cursor, n: usize, graph_long: usize) -> Cursor
 
 /// The graph beside the list's, where `differs` is known.
 pub fn beside(text: &[u8], c: Cursor, n: usize, graph: &[u32], differs: u32) -> Outcome
-    ensures { result ≡ besideAt text.now c n graph.now differs }
+    ensures { result ≡ beside_at text.now c n graph.now differs }
 {
     let at = pass_steps(text, c, n, graph.len());
     let a = replays::compare(text, at, graph);

@@ -1,6 +1,6 @@
 // The numbers of a build in a list, each with the most that it may be.
 ghost use Rattle.std.specs.Prelude.{◌≡◌};
-ghost use Rattle.replay_build.specs.Shape.{shape_at, taughtAt};
+ghost use Rattle.replay_build.specs.Shape.{shape_at, taught_at};
 
 use cases::Cursor;
 use params::SsgParams;
@@ -15,7 +15,7 @@ pub struct Shape {
 }
 
 fn read_params(text: &[u8], dimension: usize, n: usize, c: Cursor) -> Shape
-    ensures { result ≡ taughtAt text.now dimension n c }
+    ensures { result ≡ taught_at text.now dimension n c }
 {
     let init_k = cases::read_size(text, c, 64);
     let row = cases::read_size(text, init_k.cursor, 64);

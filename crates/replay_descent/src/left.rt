@@ -1,6 +1,6 @@
 // What the calls of a descent answered and left, beside the list's.
 ghost use Rattle.std.specs.Prelude.{◌≡◌};
-ghost use Rattle.replay_descent.specs.Left.{comparedWith, stateRead, besideAt, refusedAt, countsAt};
+ghost use Rattle.replay_descent.specs.Left.{compared_with, state_read, beside_at, refused_at, counts_at};
 
 use crate::shape::Shape;
 use cases::Cursor;
@@ -15,7 +15,7 @@ fn compared(
     words: &[u32],
     floats: &[f32],
 ) -> Outcome
-    ensures { result ≡ comparedWith o s state_u.now state_f.now words.now floats.now }
+    ensures { result ≡ compared_with o s state_u.now state_f.now words.now floats.now }
 {
     let lists = cases::area(s.n, s.k);
     let p = tallies::and(o, states::same_first(state_u, words, lists), tallies::NODES);
@@ -33,9 +33,9 @@ pub fn beside_read(
     words: &mut [u32],
     floats: &mut [f32],
 ) -> Outcome
-    ensures value { result ≡ besideAt text.now o s state_u.now state_f.now words.old floats.old }
-    ensures words_after { words.new ≡ (stateRead text.now o s words.old floats.old).words }
-    ensures floats_after { floats.new ≡ (stateRead text.now o s words.old floats.old).floats }
+    ensures value { result ≡ beside_at text.now o s state_u.now state_f.now words.old floats.old }
+    ensures words_after { words.new ≡ (state_read text.now o s words.old floats.old).words }
+    ensures floats_after { floats.new ≡ (state_read text.now o s words.old floats.old).floats }
 {
     let cursor = states::read_state(text, o.cursor, s.n, s.k, words, floats);
     compared(tallies::at(o, cursor), s, state_u, state_f, words, floats)
@@ -43,7 +43,7 @@ pub fn beside_read(
 
 /// A refused call: the state that the list has for it is passed.
 pub fn refused(text: &[u8], o: Outcome, c: Cursor, s: Shape) -> Outcome
-    ensures { result ≡ refusedAt text.now o c s }
+    ensures { result ≡ refused_at text.now o c s }
 {
     let p = tallies::at(o, kinds::pass_state(text, c, s.n, s.k));
     tallies::and(p, false, tallies::REFUSED)
@@ -51,7 +51,7 @@ pub fn refused(text: &[u8], o: Outcome, c: Cursor, s: Shape) -> Outcome
 
 /// An iteration's cost and total of new, beside the list's.
 pub fn counts(text: &[u8], o: Outcome, cost: usize, new: usize) -> Outcome
-    ensures { result ≡ countsAt text.now o cost new }
+    ensures { result ≡ counts_at text.now o cost new }
 {
     let a = cases::read_word(text, o.cursor);
     let b = cases::read_word(text, a.cursor);

@@ -1,7 +1,7 @@
 // The numbers of a descent in a list, each with the most that it may be.
 ghost use Rattle.std.specs.Prelude.{◌≡◌};
 ghost use Rattle.cases.specs.Text.{size_at};
-ghost use Rattle.replay_descent.specs.Shape.{shape_at, wordsLong};
+ghost use Rattle.replay_descent.specs.Shape.{shape_at, words_long};
 
 use cases::{Cursor, Size};
 
@@ -42,7 +42,7 @@ pub fn read_iterations(text: &[u8], c: Cursor) -> Size
 
 /// How many words a state is.
 pub fn words_long(n: usize, k: usize) -> usize
-    ensures { result ≡ wordsLong n k }
+    ensures { result ≡ words_long n k }
 {
     cases::area(n, k) + cases::area(260, n) + (cases::area(n, n) + 31) / 32
 }

@@ -1,32 +1,32 @@
 -- What a move and a close left, beside the list's. Assumes nothing.
 use Rattle.std.specs.Prelude.{ℕ, ◌+◌, min, false, cond, List, length, get_or, take, drop, ◌==◌, nat_le, slice_index_or, Float}
-use Rattle.cases.specs.Text.{size_at, areaOf, wordsAt, behind}
-use Rattle.replays.specs.Compare.{apart, holdsOnly}
+use Rattle.cases.specs.Text.{size_at, area_of, words_at, behind}
+use Rattle.replays.specs.Compare.{apart, holds_only}
 use Rattle.tallies.specs.declared.Outcome.{Outcome}
 use Rattle.tallies.specs.Tallies.{junk, moved_to, joined}
-use Rattle.relays.specs.Places.{sum, listAt, length_at, jobAt}
+use Rattle.relays.specs.Places.{sum, list_at, length_at, job_at}
 use Rattle.relays.specs.Bits.{agreeing}
 use Rattle.replay_relay.specs.declared.shape.Shape.{Shape}
 
 module _ (text : List ℕ) where
   -- Nodes (difference 3), and distances by their bits (4)
-  unfoldable pub besideAt : Outcome → List ℕ → List Float → Outcome
-  besideAt o nodes dists =
+  unfoldable pub beside_at : Outcome → List ℕ → List Float → Outcome
+  beside_at o nodes dists =
       let c = behind (length nodes) text o.cursor in
       let p = moved_to o (behind (length dists) text c) in
-      let q = joined p (apart nodes (wordsAt (length nodes) text o.cursor) == length nodes) 3 in
-      joined q (agreeing dists (wordsAt (length dists) text c) == length dists) 4
+      let q = joined p (apart nodes (words_at (length nodes) text o.cursor) == length nodes) 3 in
+      joined q (agreeing dists (words_at (length dists) text c) == length dists) 4
 
   -- Entries that our places have no room for: a length (2)
-  unfoldable pub outsideAt : Outcome → ℕ → Outcome
-  outsideAt o long = joined (moved_to o (behind (areaOf 2 long) text o.cursor)) false 2
+  unfoldable pub outside_at : Outcome → ℕ → Outcome
+  outside_at o long = joined (moved_to o (behind (area_of 2 long) text o.cursor)) false 2
 
   -- Entries from a place on
   unfoldable pub room_at : Outcome → ℕ → ℕ → List ℕ → List Float → Outcome
   room_at o from long words floats =
       cond (nat_le (from + long) (min (length words) (length floats)))
-      (besideAt o (take long (drop from words)) (take long (drop from floats)))
-      (outsideAt o long)
+      (beside_at o (take long (drop from words)) (take long (drop from floats)))
+      (outside_at o long)
 
   -- A node's list: its length (2), then its entries
   unfoldable pub left_at : Outcome → Shape → ℕ → List ℕ → List Float → Outcome
@@ -34,19 +34,19 @@ module _ (text : List ℕ) where
       let long = size_at 128 text o.cursor in
       let ours = get_or words (length_at s.n s.k node) junk in
       let p = joined (moved_to o long.cursor) (ours == long.value) 2 in
-      room_at p (listAt s.k node) long.value words floats
+      room_at p (list_at s.k node) long.value words floats
 
   -- The reports (5), behind which nothing has changed (6)
-  unfoldable pub reportedAt : Outcome → ℕ → List ℕ → Outcome
-  reportedAt o count reports =
+  unfoldable pub reported_at : Outcome → ℕ → List ℕ → Outcome
+  reported_at o count reports =
       let long = min count (length reports) in
       let p = moved_to o (behind long text o.cursor) in
-      let q = joined p (apart (take long reports) (wordsAt long text o.cursor) == long) 5 in
-      joined q (holdsOnly junk (drop long reports)) 6
+      let q = joined p (apart (take long reports) (words_at long text o.cursor) == long) 5 in
+      joined q (holds_only junk (drop long reports)) 6
 
 -- The node that a job's last step concerned: "of u in a job's first four steps, of v in its last four"
-unfoldable pub concernedIn : Shape → ℕ → List ℕ → List ℕ → ℕ
-concernedIn s job jobs words =
-    let steps = get_or words (sum (jobAt s.n s.k job) 2) junk in
-    let u = areaOf 2 job in
+unfoldable pub concerned_in : Shape → ℕ → List ℕ → List ℕ → ℕ
+concerned_in s job jobs words =
+    let steps = get_or words (sum (job_at s.n s.k job) 2) junk in
+    let u = area_of 2 job in
     cond (nat_le steps 4) (slice_index_or jobs u junk) (slice_index_or jobs (sum u 1) junk)

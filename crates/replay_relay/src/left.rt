@@ -1,7 +1,7 @@
 // What a move and a close left, beside the list's.
 ghost use Rattle.std.specs.Prelude.{◌≡◌, slice_index_or};
 ghost use Rattle.tallies.specs.Tallies.{junk};
-ghost use Rattle.replay_relay.specs.Left.{besideAt, outsideAt, room_at, left_at, concernedIn, reportedAt};
+ghost use Rattle.replay_relay.specs.Left.{beside_at, outside_at, room_at, left_at, concerned_in, reported_at};
 
 use crate::shape;
 use crate::shape::Shape;
@@ -9,7 +9,7 @@ use tallies::{JUNK, Outcome};
 
 /// The outcome with two slices beside the list's: nodes, and distances by their bits.
 pub fn beside(text: &[u8], o: Outcome, nodes: &[u32], dists: &[f32]) -> Outcome
-    ensures { result ≡ besideAt text.now o nodes.now dists.now }
+    ensures { result ≡ beside_at text.now o nodes.now dists.now }
 {
     let a = replays::compare(text, o.cursor, nodes);
     let b = relays::compare_bits(text, a.cursor, dists);
@@ -20,7 +20,7 @@ pub fn beside(text: &[u8], o: Outcome, nodes: &[u32], dists: &[f32]) -> Outcome
 
 // A list that our places have no room for; the list's entries are passed.
 fn outside(text: &[u8], o: Outcome, long: usize) -> Outcome
-    ensures { result ≡ outsideAt text.now o long }
+    ensures { result ≡ outside_at text.now o long }
 {
     let p = tallies::at(o, cases::pass(text, o.cursor, cases::area(2, long)));
     tallies::and(p, false, tallies::LENGTH)
@@ -79,7 +79,7 @@ pub fn left(
 
 /// The node whose list a job's last step concerned: u in its first four steps, v in its last four.
 pub fn concerned(s: Shape, job: usize, jobs: &[u32], words: &[u32]) -> usize
-    ensures { result ≡ concernedIn s job jobs.now words.now }
+    ensures { result ≡ concerned_in s job jobs.now words.now }
 {
     let steps = std::num::wrapping_add_usize(relays::job_at(s.n, s.k, job), 2);
     let u = cases::area(2, job);
@@ -91,7 +91,7 @@ pub fn concerned(s: Shape, job: usize, jobs: &[u32], words: &[u32]) -> usize
 
 /// The reports beside the list's; further places are unchanged.
 pub fn reported(text: &[u8], o: Outcome, count: usize, reports: &[u32]) -> Outcome
-    ensures { result ≡ reportedAt text.now o count reports.now }
+    ensures { result ≡ reported_at text.now o count reports.now }
 {
     let long = cases::least(count, reports.len());
     let a = replays::compare(text, o.cursor, &reports[..long]);

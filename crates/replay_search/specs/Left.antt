@@ -1,10 +1,10 @@
 -- What a search found and left, beside the list's. Assumes nothing.
 use Rattle.std.specs.Prelude.{cond, List, ℕ, ◌+◌, ◌*◌, min, eqb, leb, length, take, drop}
 use Rattle.cases.specs.declared.Cursor.{Cursor}
-use Rattle.cases.specs.Text.{word_at, size_at, wordsAt, behind}
-use Rattle.replays.specs.Compare.{apart, holdsOnly}
+use Rattle.cases.specs.Text.{word_at, size_at, words_at, behind}
+use Rattle.replays.specs.Compare.{apart, holds_only}
 use Rattle.tallies.specs.declared.Outcome.{Outcome}
-use Rattle.tallies.specs.Tallies.{junk, freshAt, joined}
+use Rattle.tallies.specs.Tallies.{junk, fresh_at, joined}
 
 module _ (text : List ℕ) where
   -- Behind m, m nodes, m bits and the takings
@@ -14,21 +14,21 @@ module _ (text : List ℕ) where
       record { differs = differs; cursor = behind (2 * m.value + 1) text m.cursor }
 
   -- Nodes (difference 3), bits (4) and takings (5)
-  unfoldable pub besideAt : Cursor → List ℕ → List ℕ → ℕ → Outcome
-  besideAt c nodes bits takings =
+  unfoldable pub beside_at : Cursor → List ℕ → List ℕ → ℕ → Outcome
+  beside_at c nodes bits takings =
       let b = behind (length nodes) text c in
       let t = word_at text (behind (length bits) text b) in
-      let p = joined (freshAt t.cursor) (eqb (apart nodes (wordsAt (length nodes) text c)) (length nodes)) 3 in
-      let q = joined p (eqb (apart bits (wordsAt (length bits) text b)) (length bits)) 4 in
+      let p = joined (fresh_at t.cursor) (eqb (apart nodes (words_at (length nodes) text c)) (length nodes)) 3 in
+      let q = joined p (eqb (apart bits (words_at (length bits) text b)) (length bits)) 4 in
       joined q (eqb t.value takings) 5
 
   -- Another m, or one that our places have no room for, is a length (2); a place behind the results that has changed is difference 6.
   unfoldable pub found_at : Cursor → ℕ → ℕ → List ℕ → List ℕ → Outcome
   found_at c m takings nodes bits =
       let listed = size_at 64 text c in
-      let o = besideAt listed.cursor (take m nodes) (take m bits) takings in
+      let o = beside_at listed.cursor (take m nodes) (take m bits) takings in
       cond (eqb m listed.value)
       (cond (leb m (min (length nodes) (length bits)))
-      (joined (joined o (holdsOnly junk (drop m nodes)) 6) (holdsOnly junk (drop m bits)) 6)
+      (joined (joined o (holds_only junk (drop m nodes)) 6) (holds_only junk (drop m bits)) 6)
       (passed_at c 2))
       (passed_at c 2)

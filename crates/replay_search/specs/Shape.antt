@@ -1,7 +1,7 @@
 -- The numbers of a search in a list, each with the most that it may be. Assumes nothing.
 use Rattle.std.specs.Prelude.{List, ℕ, ◌+◌}
 use Rattle.cases.specs.declared.Cursor.{Cursor}
-use Rattle.cases.specs.Text.{size_at, areaOf}
+use Rattle.cases.specs.Text.{size_at, area_of}
 use Rattle.replay_search.specs.declared.shape.Shape.{Shape}
 
 -- The query stands behind the lanes, as one counter more.
@@ -15,7 +15,7 @@ shape_at text c =
     record {
       dimension = d.value;
       n = n.value;
-      points = areaOf (n.value + 1) d.value;
+      points = area_of (n.value + 1) d.value;
       row = row.value;
       k = k.value;
       roots = roots.value;

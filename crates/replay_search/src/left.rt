@@ -1,6 +1,6 @@
 // What a search found and left, beside the list's.
 ghost use Rattle.std.specs.Prelude.{◌≡◌};
-ghost use Rattle.replay_search.specs.Left.{passed_at, besideAt, found_at};
+ghost use Rattle.replay_search.specs.Left.{passed_at, beside_at, found_at};
 
 use crate::shape;
 use cases::Cursor;
@@ -20,7 +20,7 @@ pub fn pass_answer(text: &[u8], c: Cursor, differs: u32) -> Outcome
 
 // The results and the takings, beside the list's.
 fn beside(text: &[u8], c: Cursor, nodes: &[u32], bits: &[u32], takings: usize) -> Outcome
-    ensures { result ≡ besideAt text.now c nodes.now bits.now takings }
+    ensures { result ≡ beside_at text.now c nodes.now bits.now takings }
 {
     let a = replays::compare(text, c, nodes);
     let b = replays::compare(text, a.cursor, bits);

@@ -8,14 +8,14 @@ apart [] ys = 0
 apart (x ∷ xs) [] = 0
 apart (x ∷ xs) (y ∷ ys) = cond (y == x) (suc (apart xs ys)) 0
 
-unfoldable pub holdsOnly : ℕ → List ℕ → Bool
-holdsOnly value [] = true
-holdsOnly value (x ∷ xs) = cond (x == value) (holdsOnly value xs) false
+unfoldable pub holds_only : ℕ → List ℕ → Bool
+holds_only value [] = true
+holds_only value (x ∷ xs) = cond (x == value) (holds_only value xs) false
 
 -- 0.0 by its bits: neither -0.0 nor a NaN
 unfoldable pub is_zero : Float → Bool
 is_zero x = cond (is_nan x) false (to_bits binary32 x == 0)
 
-unfoldable pub allZero : List Float → Bool
-allZero [] = true
-allZero (x ∷ xs) = cond (is_zero x) (allZero xs) false
+unfoldable pub all_zero : List Float → Bool
+all_zero [] = true
+all_zero (x ∷ xs) = cond (is_zero x) (all_zero xs) false

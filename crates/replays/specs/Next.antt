@@ -5,7 +5,7 @@ use Rattle.cases.specs.declared.Word.{Word}
 use Rattle.cases.specs.declared.Size.{Size}
 use Rattle.cases.specs.declared.Token.{Token}
 use Rattle.cases.specs.declared.Token.TheVariants.{Number, End, TooLarge, Strange}
-use Rattle.cases.specs.Text.{tokenAt, faulted, word_at, size_at}
+use Rattle.cases.specs.Text.{token_at, faulted, word_at, size_at}
 use Rattle.replays.specs.declared.Case.{Case}
 
 -- A number that the format does not allow there
@@ -23,19 +23,19 @@ closed c (Strange _) = unexpected c
 unfoldable pub end_at : List ℕ → ℕ → Cursor → Case
 end_at text passed c =
     let total = word_at text c in
-    cond (total.value == passed) (closed total.cursor (tokenAt text total.cursor)) (unexpected total.cursor)
+    cond (total.value == passed) (closed total.cursor (token_at text total.cursor)) (unexpected total.cursor)
 
 -- "its kind (1 to 6)"
-unfoldable pub ofKind : Size → Case
-ofKind s = cond (s.value == 0) (unexpected s.cursor) (record { kind = s.value; cursor = s.cursor })
+unfoldable pub of_kind : Size → Case
+of_kind s = cond (s.value == 0) (unexpected s.cursor) (record { kind = s.value; cursor = s.cursor })
 
 -- "A case is: its number (1, 2, 3, ..), its kind .."
-unfoldable pub caseFrom : List ℕ → ℕ → Word → Case
-caseFrom text passed number =
+unfoldable pub case_from : List ℕ → ℕ → Word → Case
+case_from text passed number =
     cond (number.cursor.fault == 0)
     (cond (number.value == 0) (end_at text passed number.cursor)
-    (cond (number.value == (passed + 1) % 2 ^ 32) (ofKind (size_at 6 text number.cursor)) (unexpected number.cursor)))
+    (cond (number.value == (passed + 1) % 2 ^ 32) (of_kind (size_at 6 text number.cursor)) (unexpected number.cursor)))
     (record { kind = 0; cursor = number.cursor })
 
 unfoldable pub case_at : List ℕ → ℕ → Cursor → Case
-case_at text passed c = caseFrom text passed (word_at text c)
+case_at text passed c = case_from text passed (word_at text c)

@@ -1,7 +1,7 @@
 // The common ground of the replays: the next case of a list, our numbers beside a list's, and lent buffers looked at after a call.
 ghost use Rattle.std.specs.Prelude.{◌≡◌, length, drop};
-ghost use Rattle.cases.specs.Text.{wordsAt, behind};
-ghost use Rattle.replays.specs.Compare.{apart, holdsOnly, is_zero, allZero};
+ghost use Rattle.cases.specs.Text.{words_at, behind};
+ghost use Rattle.replays.specs.Compare.{apart, holds_only, is_zero, all_zero};
 ghost use Rattle.replays.specs.Next.{unexpected, end_at, case_at};
 
 use cases::{Cursor, Token};
@@ -80,7 +80,7 @@ pub fn next_case(text: &[u8], c: Cursor, passed: u32) -> Case
 
 /// Compares our numbers with the next of a list.
 pub fn compare(text: &[u8], c: Cursor, ours: &[u32]) -> Compared
-    ensures at_value { result.at ≡ apart ours.now (wordsAt (length ours.now) text.now c) }
+    ensures at_value { result.at ≡ apart ours.now (words_at (length ours.now) text.now c) }
     ensures cursor_value { result.cursor ≡ behind (length ours.now) text.now c }
 {
     let mut i: usize = 0;
@@ -104,7 +104,7 @@ pub fn compare(text: &[u8], c: Cursor, ours: &[u32]) -> Compared
 
 /// Whether every place from `from` on holds `value`.
 pub fn all_words(xs: &[u32], from: usize, value: u32) -> bool
-    ensures { result ≡ holdsOnly value (drop from xs.now) }
+    ensures { result ≡ holds_only value (drop from xs.now) }
 {
     let mut i = from;
     while i < xs.len() {
@@ -118,7 +118,7 @@ pub fn all_words(xs: &[u32], from: usize, value: u32) -> bool
 
 /// Whether every place holds 0.0, and not -0.0.
 pub fn all_zero(xs: &[f32]) -> bool
-    ensures { result ≡ allZero xs.now }
+    ensures { result ≡ all_zero xs.now }
 {
     let mut i: usize = 0;
     while i < xs.len() {

@@ -12,11 +12,11 @@ use lib.Ieee.{Float}
 use borrow.Rule.Slice.PartMut.{mid_of, put_mid, same_len_mid}
 use Rattle.rules.specs.declared.Neighbor.{Neighbor}
 use Rattle.rules.specs.Loops.{each, part}
-use Rattle.rules.specs.Lists.{neighbor, nodesOf, entries}
-use Rattle.rules.specs.Rows.{emptyDistance, is_empty, live, finished}
-use Rattle.rules.specs.Build.{row_of, graphFrom}
+use Rattle.rules.specs.Lists.{neighbor, nodes_of, entries}
+use Rattle.rules.specs.Rows.{empty_distance, is_empty, live, finished}
+use Rattle.rules.specs.Build.{row_of, graph_from}
 use Rattle.rules.proofs.Loops.{length-each, row_in}
-use Rattle.lists.proofs.Slices.{length-entries, drop-entries, entries-take, take-entries, entries-suc, nodesOf-entries}
+use Rattle.lists.proofs.Slices.{length-entries, drop-entries, entries-take, take-entries, entries-suc, nodes_of-entries}
 use Rattle.lists.proofs.Plain.{length-nodes}
 use Rattle.rows.specs.Live.{LiveIn, filled}
 
@@ -80,12 +80,12 @@ module _ {A : Type 0} where
     pub long : length now ≡ length xs
     pub list : take i now ++ replicate (length xs - i) a ≡ filled k a xs
 
-  pub filling-none : (k : ℕ) (a : A) (xs : List A) → Filling k a xs xs k
+  pub filling_none : (k : ℕ) (a : A) (xs : List A) → Filling k a xs xs k
   unfolding filled
-  filling-none k a xs = record { long = refl; list = refl }
+  filling_none k a xs = record { long = refl; list = refl }
 
-  pub filling-turn : {k : ℕ} {a : A} {xs now : List A} {i : ℕ} → Filling k a xs now i → i < length xs → Filling k a xs (set now i a) (i + 1)
-  filling-turn {k} {a} {xs} {now} {i} inv h =
+  pub filling_turn : {k : ℕ} {a : A} {xs now : List A} {i : ℕ} → Filling k a xs now i → i < length xs → Filling k a xs (set now i a) (i + 1)
+  filling_turn {k} {a} {xs} {now} {i} inv h =
       let long = inv.long in
       let e : length xs - i ≡ suc (length xs - suc i) = omega arith in
       record {
@@ -97,8 +97,8 @@ module _ {A : Type 0} where
             ∙ ap (λ (m : ℕ). take i now ++ replicate m a) (sym e) ∙ inv.list);
       }
 
-  pub filling-end : {k : ℕ} {a : A} {xs now : List A} {i : ℕ} → Filling k a xs now i → length xs ≤ i → now ≡ filled k a xs
-  filling-end {k} {a} {xs} {now} {i} inv h =
+  pub filling_end : {k : ℕ} {a : A} {xs now : List A} {i : ℕ} → Filling k a xs now i → length xs ≤ i → now ≡ filled k a xs
+  filling_end {k} {a} {xs} {now} {i} inv h =
       let long = inv.long in
       let e : length xs - i ≡ 0 = omega arith in
       sym (append-nil now) ∙ ap (λ (l : List A). l ++ []) (sym (take_all i now (omega arith)))
@@ -106,16 +106,16 @@ module _ {A : Type 0} where
 
 -- "Empty slots hold node n and distance 0x7F7FFFFF": the row written
 pub row-filled : (n w k : ℕ) (ns : List ℕ) (ds : List Float) → length ns ≡ w → length ds ≡ w → k ≤ w
-    → entries w (filled k n ns) (filled k emptyDistance ds) ≡ row_of n w (entries k ns ds)
+    → entries w (filled k n ns) (filled k empty_distance ds) ≡ row_of n w (entries k ns ds)
 unfolding filled row_of
 row-filled n w k ns ds h g l =
     let e : w ≡ k + (w - k) = omega arith in
     rw (h, g, length-entries k ns ds (omega arith) (omega arith))
-    (ap (λ (x : ℕ). entries x (take k ns ++ replicate (w - k) n) (take k ds ++ replicate (w - k) emptyDistance)) e
-    ∙ entries-append k (w - k) (take k ns) (replicate (w - k) n) (take k ds) (replicate (w - k) emptyDistance)
+    (ap (λ (x : ℕ). entries x (take k ns ++ replicate (w - k) n) (take k ds ++ replicate (w - k) empty_distance)) e
+    ∙ entries-append k (w - k) (take k ns) (replicate (w - k) n) (take k ds) (replicate (w - k) empty_distance)
     (length-take-le k ns (omega arith)) (length-take-le k ds (omega arith))
-    ∙ ap (λ (l : List Neighbor). l ++ entries (w - k) (replicate (w - k) n) (replicate (w - k) emptyDistance)) (entries-take k ns ds)
-    ∙ ap (λ (l : List Neighbor). entries k ns ds ++ l) (entries-replicate (w - k) n emptyDistance))
+    ∙ ap (λ (l : List Neighbor). l ++ entries (w - k) (replicate (w - k) n) (replicate (w - k) empty_distance)) (entries-take k ns ds)
+    ∙ ap (λ (l : List Neighbor). entries k ns ds ++ l) (entries-replicate (w - k) n empty_distance))
 
 -- ---- the live part, from the front: i slots are live
 
@@ -123,9 +123,9 @@ pub record Living (w : ℕ) (ds : List Float) (i : ℕ) : Type 0 where
   pub within : i ≤ w
   pub list : (ns : List ℕ) → w ≤ length ns → live (entries w ns ds) ≡ entries i ns ds ++ live (drop i (entries w ns ds))
 
-pub living-none : (w : ℕ) (ds : List Float) → Living w ds 0
+pub living_none : (w : ℕ) (ds : List Float) → Living w ds 0
 unfolding entries
-living-none w ds = record { within = zero-le; list = λ (ns : List ℕ) (h : w ≤ length ns). refl }
+living_none w ds = record { within = zero-le; list = λ (ns : List ℕ) (h : w ≤ length ns). refl }
 
 live_here : (e : Neighbor) (es : List Neighbor) → is_empty e ≡ true → live (e ∷ es) ≡ []
 unfolding live
@@ -140,9 +140,9 @@ unfolding live
 live-nil = refl
 
 module _ {w : ℕ} {ds : List Float} {i : ℕ} (inv : Living w ds i) (k : w ≤ length ds) where
-  pub living-here : (d : Float) → i < w → is_empty (neighbor 0 (get_or ds i d)) ≡ true → LiveIn w ds i
+  pub living_here : (d : Float) → i < w → is_empty (neighbor 0 (get_or ds i d)) ≡ true → LiveIn w ds i
   unfolding is_empty
-  living-here d l e =
+  living_here d l e =
       record {
         within = inv.within;
         list =
@@ -153,9 +153,9 @@ module _ {w : ℕ} {ds : List Float} {i : ℕ} (inv : Living w ds i) (k : w ≤ 
             ∙ append-nil (entries i ns ds);
       }
 
-  pub living-turn : (d : Float) → i < w → is_empty (neighbor 0 (get_or ds i d)) ≡ false → Living w ds (i + 1)
+  pub living_turn : (d : Float) → i < w → is_empty (neighbor 0 (get_or ds i d)) ≡ false → Living w ds (i + 1)
   unfolding is_empty
-  living-turn d l e =
+  living_turn d l e =
       record {
         within = omega arith;
         list =
@@ -170,8 +170,8 @@ module _ {w : ℕ} {ds : List Float} {i : ℕ} (inv : Living w ds i) (k : w ≤ 
             ∙ ap (λ (l : List Neighbor). l ++ live (drop (suc i) E)) (sym (entries-suc i ns ds 0 d (omega arith) (omega arith))));
       }
 
-  pub living-end : w ≤ i → LiveIn w ds i
-  living-end l =
+  pub living_end : w ≤ i → LiveIn w ds i
+  living_end l =
       record {
         within = inv.within;
         list =
@@ -198,7 +198,7 @@ length-finished : (n w : ℕ) (es : List Neighbor) → length es ≤ w → lengt
 unfolding finished
 length-finished n w es h =
     let l = length-live es in
-    length-append (nodesOf (live es)) (replicate (w - length (live es)) n)
+    length-append (nodes_of (live es)) (replicate (w - length (live es)) n)
     ∙ rw (length-nodes (live es), length-replicate (w - length (live es)) n) (omega arith)
 
 pub row-finished : (n : ℕ) (ns : List ℕ) {w : ℕ} {ds : List Float} {r : ℕ} → length ns ≡ w → w ≤ length ds → LiveIn w ds r
@@ -206,7 +206,7 @@ pub row-finished : (n : ℕ) (ns : List ℕ) {w : ℕ} {ds : List Float} {r : �
 unfolding filled finished
 row-finished n ns {w} {ds} {r} h g made =
     let in_row = made.within in
-    rw (made.list ns (omega arith), nodesOf-entries r ns ds (omega arith), length-entries r ns ds (omega arith) (omega arith), h)
+    rw (made.list ns (omega arith), nodes_of-entries r ns ds (omega arith), length-entries r ns ds (omega arith) (omega arith), h)
 
 -- row q of the graph
 abbrev row_at : ℕ → ℕ → List ℕ → List Float → ℕ → List ℕ
@@ -224,16 +224,16 @@ pub record Finishing (n w : ℕ) (ns₀ : List ℕ) (ds : List Float) (ns : List
   pub long : length ns ≡ length ns₀
   pub list : ns ≡ each (row_at n w ns₀ ds) q ++ drop (q * w) ns₀
 
-pub finishing-none : (n w : ℕ) (ns : List ℕ) (ds : List Float) → Finishing n w ns ds ns 0
+pub finishing_none : (n w : ℕ) (ns : List ℕ) (ds : List Float) → Finishing n w ns ds ns 0
 unfolding each
-finishing-none n w ns ds = record { within = zero-le; long = refl; list = rw (zero-mul w) }
+finishing_none n w ns ds = record { within = zero-le; long = refl; list = rw (zero-mul w) }
 
 -- row q is lent, k places from q * w on, and comes back finished
-pub finishing-turn : {n w : ℕ} {ns₀ : List ℕ} {ds : List Float} {ns : List ℕ} {q : ℕ} → Finishing n w ns₀ ds ns q → length ns₀ ≡ n * w → n * w ≤ length ds → q < n
+pub finishing_turn : {n w : ℕ} {ns₀ : List ℕ} {ds : List Float} {ns : List ℕ} {q : ℕ} → Finishing n w ns₀ ds ns q → length ns₀ ≡ n * w → n * w ≤ length ds → q < n
     → (k : ℕ) → k ≡ w → {ys : List ℕ} → ys ≡ finished n w (entries w (mid_of (q * w) k ns) (mid_of (q * w) k ds))
     → Finishing n w ns₀ ds (put_mid (q * w) k ns ys) (q + 1)
 unfolding part each
-finishing-turn {n} {w} {ns₀} {ds} {ns} {q} inv h g l k e {ys} made =
+finishing_turn {n} {w} {ns₀} {ds} {ns} {q} inv h g l k e {ys} made =
     let f = row_at n w ns₀ ds in
     let a = q * w in
     let m = row_in n w q l in
@@ -260,10 +260,10 @@ finishing-turn {n} {w} {ns₀} {ds} {ns} {q} inv h g l k e {ys} made =
           ∙ sym (append_assoc (each f q) (f q) (drop (a + w) ns₀)));
     }
 
-pub finishing-end : {n w : ℕ} {ns₀ : List ℕ} {ds : List Float} {ns : List ℕ} {q : ℕ} → Finishing n w ns₀ ds ns q → length ns₀ ≡ n * w → n ≤ q
-    → ns ≡ graphFrom n w (entries (n * w) ns₀ ds)
-unfolding graphFrom
-finishing-end {n} {w} {ns₀} {ds} {ns} {q} inv h l =
+pub finishing_end : {n w : ℕ} {ns₀ : List ℕ} {ds : List Float} {ns : List ℕ} {q : ℕ} → Finishing n w ns₀ ds ns q → length ns₀ ≡ n * w → n ≤ q
+    → ns ≡ graph_from n w (entries (n * w) ns₀ ds)
+unfolding graph_from
+finishing_end {n} {w} {ns₀} {ds} {ns} {q} inv h l =
     let i = inv.within in
     let same : q ≡ n = omega arith in
     let f = row_at n w ns₀ ds in

@@ -1,8 +1,8 @@
 // Rows of slots in two slices, nodes and distances: their live part, the row writer of step 4 and the rows of step 6.
 ghost use Rattle.std.specs.Prelude.{◌≡◌, ◌*◌, ◌≤◌, length};
 ghost use Rattle.rules.specs.Lists.{entries};
-ghost use Rattle.rules.specs.Rows.{emptyDistance, finished};
-ghost use Rattle.rules.specs.Build.{row_of, graphFrom};
+ghost use Rattle.rules.specs.Rows.{empty_distance, finished};
+ghost use Rattle.rules.specs.Build.{row_of, graph_from};
 ghost use Rattle.rows.specs.Live.{LiveIn, filled};
 
 /// The distance of an empty slot, 0x7F7FFFFF (hora's `E::max_value()`).
@@ -38,7 +38,7 @@ fn fill_nodes(nodes: &mut [u32], from: usize, n: usize)
 // Writes the empty distance to every place from `from` on.
 fn fill_dists(dists: &mut [f32], from: usize)
     requires { from ≤ length dists.old }
-    ensures { dists.new ≡ filled from emptyDistance dists.old }
+    ensures { dists.new ≡ filled from empty_distance dists.old }
 {
     let mut i = from;
     while i < dists.len() {
@@ -70,7 +70,7 @@ pub fn finish_row(n: usize, w: usize, nodes: &mut [u32], dists: &[f32])
 pub fn finish(n: usize, index_size: usize, nodes: &mut [u32], dists: &[f32])
     requires n_bound { (n ≤ 4096) × (index_size ≤ 64) }
     requires nodes_len { (length nodes.old ≡ n * index_size) × (n * index_size ≤ length dists.now) }
-    ensures { nodes.new ≡ graphFrom n index_size (entries (n * index_size) nodes.old dists.now) }
+    ensures { nodes.new ≡ graph_from n index_size (entries (n * index_size) nodes.old dists.now) }
 {
     let mut q: usize = 0;
     while q < n {

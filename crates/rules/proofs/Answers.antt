@@ -11,12 +11,12 @@ use Rattle.rules.specs.declared.SearchAnswer.TheVariants as search
 use Rattle.rules.specs.declared.IterateAnswer.{IterateAnswer}
 use Rattle.rules.specs.declared.IterateAnswer.TheVariants as iterate
 use Rattle.rules.specs.Refusals.{Code, code_of, said_of}
-use Rattle.rules.specs.SearchCall.{SearchSaid, searchSaid}
-use Rattle.rules.specs.DescentCall.{IterateSaid, iterateSaid}
+use Rattle.rules.specs.SearchCall.{SearchSaid, search_said}
+use Rattle.rules.specs.DescentCall.{IterateSaid, iterate_said}
 
 -- the refusal of a number and its places
-refusalOf : Code → Refusal
-refusalOf c =
+refusal_of : Code → Refusal
+refusal_of c =
     cond (eqb c.number 1) Dimension
     (cond (eqb c.number 2) Nodes
     (cond (eqb c.number 3) Lanes
@@ -30,8 +30,8 @@ refusalOf c =
     (cond (eqb c.number 11) Draws (cond (eqb c.number 12) State (Step c.first))))))))))))
 
 -- a refusal is told by its number and places, and none has number 0
-known : (r : Refusal) → (refusalOf (code_of r) ≡ r) × (eqb (code_of r).number 0 ≡ false)
-unfolding code_of refusalOf
+known : (r : Refusal) → (refusal_of (code_of r) ≡ r) × (eqb (code_of r).number 0 ≡ false)
+unfolding code_of refusal_of
 known Dimension = (refl, refl)
 known Nodes = (refl, refl)
 known Lanes = (refl, refl)
@@ -47,7 +47,7 @@ known State = (refl, refl)
 known (Step job) = (refl, refl)
 
 answer_of : Code → Answer
-answer_of c = cond (eqb c.number 0) answer.Done (answer.Refused (refusalOf c))
+answer_of c = cond (eqb c.number 0) answer.Done (answer.Refused (refusal_of c))
 
 answer_back : (a : Answer) → answer_of (said_of a) ≡ a
 unfolding said_of answer_of
@@ -57,24 +57,24 @@ answer_back (answer.Refused r) = rw (known r).1 (ap answer.Refused (known r).0)
 pub same_answer : (a b : Answer) → said_of a ≡ said_of b → a ≡ b
 same_answer a b e = sym (answer_back a) ∙ ap answer_of e ∙ answer_back b
 
-searchOf : SearchSaid → SearchAnswer
-searchOf s = cond (eqb s.code.number 0) (search.Found s.m s.takings) (search.Refused (refusalOf s.code))
+search_of : SearchSaid → SearchAnswer
+search_of s = cond (eqb s.code.number 0) (search.Found s.m s.takings) (search.Refused (refusal_of s.code))
 
-search-back : (a : SearchAnswer) → searchOf (searchSaid a) ≡ a
-unfolding searchSaid searchOf
-search-back (search.Found m takings) = refl
-search-back (search.Refused r) = rw (known r).1 (ap search.Refused (known r).0)
+search_back : (a : SearchAnswer) → search_of (search_said a) ≡ a
+unfolding search_said search_of
+search_back (search.Found m takings) = refl
+search_back (search.Refused r) = rw (known r).1 (ap search.Refused (known r).0)
 
-pub same-search : (a b : SearchAnswer) → searchSaid a ≡ searchSaid b → a ≡ b
-same-search a b e = sym (search-back a) ∙ ap searchOf e ∙ search-back b
+pub same_search : (a b : SearchAnswer) → search_said a ≡ search_said b → a ≡ b
+same_search a b e = sym (search_back a) ∙ ap search_of e ∙ search_back b
 
-iterateOf : IterateSaid → IterateAnswer
-iterateOf s = cond (eqb s.code.number 0) (iterate.Iterated s.cost s.new) (iterate.Refused (refusalOf s.code))
+iterate_of : IterateSaid → IterateAnswer
+iterate_of s = cond (eqb s.code.number 0) (iterate.Iterated s.cost s.new) (iterate.Refused (refusal_of s.code))
 
-iterate-back : (a : IterateAnswer) → iterateOf (iterateSaid a) ≡ a
-unfolding iterateSaid iterateOf
-iterate-back (iterate.Iterated cost new) = refl
-iterate-back (iterate.Refused r) = rw (known r).1 (ap iterate.Refused (known r).0)
+iterate_back : (a : IterateAnswer) → iterate_of (iterate_said a) ≡ a
+unfolding iterate_said iterate_of
+iterate_back (iterate.Iterated cost new) = refl
+iterate_back (iterate.Refused r) = rw (known r).1 (ap iterate.Refused (known r).0)
 
-pub same-iterate : (a b : IterateAnswer) → iterateSaid a ≡ iterateSaid b → a ≡ b
-same-iterate a b e = sym (iterate-back a) ∙ ap iterateOf e ∙ iterate-back b
+pub same_iterate : (a b : IterateAnswer) → iterate_said a ≡ iterate_said b → a ≡ b
+same_iterate a b e = sym (iterate_back a) ∙ ap iterate_of e ∙ iterate_back b

@@ -9,17 +9,17 @@ use Rattle.rules.specs.Lists.{node_of}
 use Rattle.rules.specs.Build.{Between, cosine, occludes}
 
 -- no comparison holds of a NaN
-pub under-nan : (x : Float) → lt x nan ≡ false
+pub under_nan : (x : Float) → lt x nan ≡ false
 unfolding lt
-under-nan nan = refl
-under-nan (inf s) = refl
-under-nan (fin s m e) = refl
+under_nan nan = refl
+under_nan (inf s) = refl
+under_nan (fin s m e) = refl
 
 -- "NaN does not occlude.": in step 5 an equal node still does
-pub nan-leaves : (d : Between) (threshold : Float) (equalToo : Bool) (p r : Neighbor) → cosine p.distance r.distance (d (node_of p) (node_of r)) ≡ nan
-    → occludes d threshold equalToo p r ≡ ((equalToo && eqb (node_of p) (node_of r)) || false)
+pub nan-leaves : (d : Between) (threshold : Float) (equal_too : Bool) (p r : Neighbor) → cosine p.distance r.distance (d (node_of p) (node_of r)) ≡ nan
+    → occludes d threshold equal_too p r ≡ ((equal_too && eqb (node_of p) (node_of r)) || false)
 unfolding occludes
-nan-leaves d threshold equalToo p r h = rw (h, under-nan threshold)
+nan-leaves d threshold equal_too p r h = rw (h, under_nan threshold)
 
 -- "dp = dr = djk = 0": zero over zero is a NaN
 pub zero-over-zero : cosine zero32 zero32 zero32 ≡ nan

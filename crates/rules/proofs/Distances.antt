@@ -10,10 +10,10 @@ use Rattle.rules.specs.declared.NodeId.{NodeId}
 use Rattle.rules.specs.declared.Distance.{Distance}
 use Rattle.rules.specs.declared.Distance.TheVariants.{Fit, Unfit}
 use Rattle.rules.specs.declared.Refusal.TheVariants.{Pair}
-use Rattle.rules.specs.Distance.{lane, total_of, measureOf, unfit, carried}
-use Rattle.rules.specs.Refusals.{code_of, noRefusal, row10, row10ofJobs}
-use Rattle.rules.specs.Search.{unfitAt}
-use Rattle.rules.specs.SearchCall.{SearchLent, searchZeroed, searchEnds}
+use Rattle.rules.specs.Distance.{lane, total_of, measure_of, unfit, carried}
+use Rattle.rules.specs.Refusals.{code_of, no_refusal, row10, row10_of_jobs}
+use Rattle.rules.specs.Search.{unfit_at}
+use Rattle.rules.specs.SearchCall.{SearchLent, search_zeroed, search_ends}
 
 pub total-fits : (total : Float) (a b : List Float) → T (fits binary32 total) → T (fits binary32 (total_of total a b))
 unfolding total_of lane
@@ -24,25 +24,25 @@ total-fits total (a ∷ x) (b ∷ y) h = total-fits (lane total a b) x y (add-fi
 -- "When an answer is an enum, a definition tells you this paper's number and values for each of its cases.": a distance answer's number is that of no refusal
 -- or that of row 10, wherever 10 is given, and its value the distance that it carries
 pub record SaidOfDistance : Type 0 where
-  pub value : (x : Distance) → (measureOf x).value ≡ carried x
-  pub fit-number : (x : Distance) → unfit x ≡ false → (measureOf x).number ≡ noRefusal.number
-  pub unfit-number : (x : Distance) → unfit x ≡ true → (i j : NodeId) → (measureOf x).number ≡ (code_of (Pair i j)).number
-  pub of-pairs : (apart : ℕ → ℕ → Distance) (n : ℕ) → (row10 apart n).gives.number ≡ (measureOf Unfit).number
-  pub of-jobs : (apart : ℕ → ℕ → Distance) (jobs : List ℕ) → (row10ofJobs apart jobs).gives.number ≡ (measureOf Unfit).number
-  pub of-search : (l : SearchLent) (v : ℕ) → (searchEnds l (unfitAt v)).said.code.number ≡ (measureOf Unfit).number
+  pub value : (x : Distance) → (measure_of x).value ≡ carried x
+  pub fit_number : (x : Distance) → unfit x ≡ false → (measure_of x).number ≡ no_refusal.number
+  pub unfit_number : (x : Distance) → unfit x ≡ true → (i j : NodeId) → (measure_of x).number ≡ (code_of (Pair i j)).number
+  pub of_pairs : (apart : ℕ → ℕ → Distance) (n : ℕ) → (row10 apart n).gives.number ≡ (measure_of Unfit).number
+  pub of_jobs : (apart : ℕ → ℕ → Distance) (jobs : List ℕ) → (row10_of_jobs apart jobs).gives.number ≡ (measure_of Unfit).number
+  pub of_search : (l : SearchLent) (v : ℕ) → (search_ends l (unfit_at v)).said.code.number ≡ (measure_of Unfit).number
 
-pub said-of-distance : SaidOfDistance
-unfolding measureOf carried unfit code_of row10 row10ofJobs searchEnds searchZeroed
-said-of-distance = record { value = values; fit-number = fits-number; unfit-number = unfits-number; of-pairs = λ apart n. refl; of-jobs = λ apart jobs. refl; of-search = λ l v. refl }
+pub said_of_distance : SaidOfDistance
+unfolding measure_of carried unfit code_of row10 row10_of_jobs search_ends search_zeroed
+said_of_distance = record { value = values; fit_number = fits-number; unfit_number = unfits_number; of_pairs = λ apart n. refl; of_jobs = λ apart jobs. refl; of_search = λ l v. refl }
   where
-    values : (x : Distance) → (measureOf x).value ≡ carried x
+    values : (x : Distance) → (measure_of x).value ≡ carried x
     values (Fit x) = refl
     values Unfit = refl
 
-    fits-number : (x : Distance) → unfit x ≡ false → (measureOf x).number ≡ noRefusal.number
+    fits-number : (x : Distance) → unfit x ≡ false → (measure_of x).number ≡ no_refusal.number
     fits-number (Fit x) h = refl
     fits-number Unfit h = absurd (true≢false h)
 
-    unfits-number : (x : Distance) → unfit x ≡ true → (i j : NodeId) → (measureOf x).number ≡ (code_of (Pair i j)).number
-    unfits-number (Fit x) h i j = absurd (true≢false (sym h))
-    unfits-number Unfit h i j = refl
+    unfits_number : (x : Distance) → unfit x ≡ true → (i j : NodeId) → (measure_of x).number ≡ (code_of (Pair i j)).number
+    unfits_number (Fit x) h i j = absurd (true≢false (sym h))
+    unfits_number Unfit h i j = refl

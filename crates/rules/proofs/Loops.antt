@@ -10,14 +10,14 @@ use lib.Dec.{eqb, ltb}
 use lib.ListN.{length, take, drop, get_or, drop_of_length-le, length-append, length-drop, get_or-append}
 use lib.Seq.{drop-cons, drop-append-le, drop_at, take-append-le, take_all, get_or_at}
 use borrow.Author.Tests.{ltb-true, ltb-false, eqb-true, eqb-false}
-use Rattle.rules.specs.Loops.{turns, through, each, firstFrom, any_of, has, part}
+use Rattle.rules.specs.Loops.{turns, through, each, first_from, any_of, has, part}
 
 -- ---- a turn for each of a list: what is left at turn i gives the whole
 
 module _ {A S : Type 0} (f : A → S → S) where
-  pub through-turn : (xs : List A) (i : ℕ) (z : A) (s : S) → i < length xs → through f (drop (i + 1) xs) (f (get_or xs i z) s) ≡ through f (drop i xs) s
+  pub through_turn : (xs : List A) (i : ℕ) (z : A) (s : S) → i < length xs → through f (drop (i + 1) xs) (f (get_or xs i z) s) ≡ through f (drop i xs) s
   unfolding through
-  through-turn xs i z s h = rw (add-one, drop-cons xs i z)
+  through_turn xs i z s h = rw (add-one, drop-cons xs i z)
 
   pub through-end : (xs : List A) (i : ℕ) (s : S) → length xs ≤ i → through f (drop i xs) s ≡ s
   unfolding through
@@ -30,9 +30,9 @@ module _ {A S : Type 0} (f : A → S → S) where
 
 -- ---- the turns 0, 1, .., n - 1
 
-pub turns-turn : {S : Type 0} (f : ℕ → S → S) (i : ℕ) (s : S) → f i (turns f i s) ≡ turns f (i + 1) s
+pub turns_turn : {S : Type 0} (f : ℕ → S → S) (i : ℕ) (s : S) → f i (turns f i s) ≡ turns f (i + 1) s
 unfolding turns
-turns-turn f i s = rw add-one
+turns_turn f i s = rw add-one
 
 -- ---- rows of w places
 
@@ -92,10 +92,10 @@ module _ {A : Type 0} (f : ℕ → A) where
   pub length-ones : (n : ℕ) → length (ones n) ≡ n
   length-ones n = length-each (λ (i : ℕ). f i ∷ []) 1 (λ (i : ℕ). refl) n ∙ omega arith
 
-  pub getD-ones : (n i : ℕ) (z : A) → i < n → get_or (ones n) i z ≡ f i
+  pub get_d_ones : (n i : ℕ) (z : A) → i < n → get_or (ones n) i z ≡ f i
   unfolding each
-  getD-ones zero i z h = absurd (omega arith)
-  getD-ones (suc n) i z h = go (ltb i n) refl (getD-ones n i z)
+  get_d_ones zero i z h = absurd (omega arith)
+  get_d_ones (suc n) i z h = go (ltb i n) refl (get_d_ones n i z)
     where
       go : (b : Bool) → ltb i n ≡ b → (i < n → get_or (ones n) i z ≡ f i) → get_or (ones n ++ (f n ∷ [])) i z ≡ f i
       go true e ih =
@@ -110,32 +110,32 @@ module _ {A : Type 0} (f : ℕ → A) where
 -- ---- the first place of which a test holds, with t places to try
 
 module _ (p : ℕ → Bool) where
-  pub first-from : (i t : ℕ) → i ≤ firstFrom p i t
-  unfolding firstFrom
+  pub first-from : (i t : ℕ) → i ≤ first_from p i t
+  unfolding first_from
   first-from i zero = le_refl i
   first-from i (suc t) = go (p i) (first-from (suc i) t)
     where
-      go : (b : Bool) → suc i ≤ firstFrom p (suc i) t → i ≤ cond b i (firstFrom p (suc i) t)
+      go : (b : Bool) → suc i ≤ first_from p (suc i) t → i ≤ cond b i (first_from p (suc i) t)
       go true h = le_refl i
       go false h = omega arith
 
   -- the test holds there, and of none before
-  pub first_holds : (i t : ℕ) → firstFrom p i t < i + t → p (firstFrom p i t) ≡ true
-  unfolding firstFrom
+  pub first_holds : (i t : ℕ) → first_from p i t < i + t → p (first_from p i t) ≡ true
+  unfolding first_from
   first_holds i zero h = absurd (omega arith)
   first_holds i (suc t) h = go (p i) refl (first_holds (suc i) t) h
     where
-      go : (b : Bool) → p i ≡ b → (firstFrom p (suc i) t < suc i + t → p (firstFrom p (suc i) t) ≡ true)
-          → cond b i (firstFrom p (suc i) t) < i + suc t → p (cond b i (firstFrom p (suc i) t)) ≡ true
+      go : (b : Bool) → p i ≡ b → (first_from p (suc i) t < suc i + t → p (first_from p (suc i) t) ≡ true)
+          → cond b i (first_from p (suc i) t) < i + suc t → p (cond b i (first_from p (suc i) t)) ≡ true
       go true e ih g = e
       go false e ih g = ih (omega arith)
 
-  pub first-before : (i t j : ℕ) → i ≤ j → j < firstFrom p i t → p j ≡ false
-  unfolding firstFrom
+  pub first-before : (i t j : ℕ) → i ≤ j → j < first_from p i t → p j ≡ false
+  unfolding first_from
   first-before i zero j l h = absurd (omega arith)
   first-before i (suc t) j l h = go (p i) refl (first-before (suc i) t j) h
     where
-      go : (b : Bool) → p i ≡ b → (suc i ≤ j → j < firstFrom p (suc i) t → p j ≡ false) → j < cond b i (firstFrom p (suc i) t) → p j ≡ false
+      go : (b : Bool) → p i ≡ b → (suc i ≤ j → j < first_from p (suc i) t → p j ≡ false) → j < cond b i (first_from p (suc i) t) → p j ≡ false
       go true e ih g = absurd (omega arith)
       go false e ih g = at (eqb i j) refl
         where
@@ -145,19 +145,19 @@ module _ (p : ℕ → Bool) where
 
 -- a search that tries the places below n: at place i, with those left to try
 module _ (p : ℕ → Bool) (n i : ℕ) where
-  pub first-here : i < n → p i ≡ true → firstFrom p i (n - i) ≡ i
-  unfolding firstFrom
+  pub first-here : i < n → p i ≡ true → first_from p i (n - i) ≡ i
+  unfolding first_from
   first-here h e = let s : n - i ≡ suc (n - suc i) = omega arith in rw s (simp e)
 
-  pub first-turn : i < n → p i ≡ false → firstFrom p (i + 1) (n - (i + 1)) ≡ firstFrom p i (n - i)
-  unfolding firstFrom
-  first-turn h e = let s : n - i ≡ suc (n - suc i) = omega arith in rw (s, add-one) (simp e)
+  pub first_turn : i < n → p i ≡ false → first_from p (i + 1) (n - (i + 1)) ≡ first_from p i (n - i)
+  unfolding first_from
+  first_turn h e = let s : n - i ≡ suc (n - suc i) = omega arith in rw (s, add-one) (simp e)
 
-  pub first-begun : firstFrom p i (n - 0) ≡ firstFrom p i n
-  first-begun = ap (firstFrom p i) (let e : n - 0 ≡ n = omega arith in e)
+  pub first-begun : first_from p i (n - 0) ≡ first_from p i n
+  first-begun = ap (first_from p i) (let e : n - 0 ≡ n = omega arith in e)
 
-  pub first-end : n ≤ i → firstFrom p i (n - i) ≡ i
-  unfolding firstFrom
+  pub first-end : n ≤ i → first_from p i (n - i) ≡ i
+  unfolding first_from
   first-end h = let s : n - i ≡ 0 = omega arith in rw s
 
 -- ---- whether a test holds of one of a list: at place i
@@ -167,15 +167,15 @@ module _ {A : Type 0} (p : A → Bool) (xs : List A) (i : ℕ) where
   unfolding any_of
   any_here z h e = rw (drop-cons xs i z, e)
 
-  pub any-turn : (z : A) → i < length xs → p (get_or xs i z) ≡ false → any_of p (drop (i + 1) xs) ≡ any_of p (drop i xs)
+  pub any_turn : (z : A) → i < length xs → p (get_or xs i z) ≡ false → any_of p (drop (i + 1) xs) ≡ any_of p (drop i xs)
   unfolding any_of
-  any-turn z h e = rw (add-one, drop-cons xs i z, e)
+  any_turn z h e = rw (add-one, drop-cons xs i z, e)
 
-  pub any-end : length xs ≤ i → any_of p (drop i xs) ≡ false
+  pub any_end : length xs ≤ i → any_of p (drop i xs) ≡ false
   unfolding any_of
-  any-end h = ap (any_of p) (drop_of_length-le xs {i = i} h)
+  any_end h = ap (any_of p) (drop_of_length-le xs {i = i} h)
 
-pub has-any : (v : ℕ) (xs : List ℕ) → has v xs ≡ any_of (eqb v) xs
+pub has_any : (v : ℕ) (xs : List ℕ) → has v xs ≡ any_of (eqb v) xs
 unfolding has any_of
-has-any v [] = refl
-has-any v (x ∷ xs) = ap (λ (b : Bool). eqb v x || b) (has-any v xs)
+has_any v [] = refl
+has_any v (x ∷ xs) = ap (λ (b : Bool). eqb v x || b) (has_any v xs)

@@ -11,7 +11,7 @@ use Rattle.rules.specs.Numbers.{most}
 use Rattle.rules.specs.Loops.{part}
 use Rattle.rules.specs.Relay.{bit}
 use Rattle.rules.specs.Places.{padded}
-use Rattle.rules.specs.DescentPlaces.{memberWords, membersIn}
+use Rattle.rules.specs.DescentPlaces.{member_words, members_in}
 
 pub length-padded : {A : Type 0} (n : ℕ) (z : A) (xs : List A) → length xs ≤ n → length (padded n z xs) ≡ n
 unfolding padded
@@ -34,16 +34,16 @@ bit_is false = refl
 
 -- ---- the members of a context, in a length and 64 places
 
-pub length-memberWords : (xs : List ℕ) → length xs ≤ 64 → length (memberWords xs) ≡ 65
-unfolding memberWords
-length-memberWords xs h = ap suc (length-padded most 0 xs h)
+pub length-member_words : (xs : List ℕ) → length xs ≤ 64 → length (member_words xs) ≡ 65
+unfolding member_words
+length-member_words xs h = ap suc (length-padded most 0 xs h)
 
-pub length-members : (us : List ℕ) → length (membersIn us) ≤ 64
-unfolding membersIn
+pub length-members : (us : List ℕ) → length (members_in us) ≤ 64
+unfolding members_in
 length-members us = simp length-take (omega arith)
 
 -- what stands behind them is not read
-pub members-front : (us : List ℕ) → membersIn (take 65 us) ≡ membersIn us
-unfolding membersIn
+pub members-front : (us : List ℕ) → members_in (take 65 us) ≡ members_in us
+unfolding members_in
 members-front [] = refl
 members-front (u ∷ us) = ap (take u) (take-take 64 64 us (omega arith))

@@ -7,13 +7,13 @@ use lib.ListN.{replicate}
 use lib.Ieee.{Float, binary32, of_bits, to_bits, add, sub, mul, lt, eq}
 use Rattle.rules.specs.declared.Neighbor.{Neighbor}
 use Rattle.rules.specs.Loops.{each, part}
-use Rattle.rules.specs.Distance.{lane, total_of, fit, answer, distance_of, carried, lanes_of, nodesApart, between, before}
+use Rattle.rules.specs.Distance.{lane, total_of, fit, answer, distance_of, carried, lanes_of, nodes_apart, between, before}
 use Rattle.rules.specs.Lists.{neighbor, insert}
-use Rattle.rules.specs.Rows.{emptySlot}
+use Rattle.rules.specs.Rows.{empty_slot}
 use Rattle.rules.specs.Build.{Between}
 use Rattle.rules.specs.Search.{farthest}
 use Rattle.rules.specs.Offers.{unfilled, look, pop}
-use Rattle.rules.specs.Relay.{fresh, popped, Job, Relay, isPopped, nextStage, nextList, moveFirst, moveSecond, moved, job_of, opened}
+use Rattle.rules.specs.Relay.{fresh, popped, Job, Relay, is_popped, next_stage, next_list, move_first, move_second, moved, job_of, opened}
 
 -- 0.0, 1.0, 2.0, 3.0, 7.0, 9.0, 49.0 and 0.5
 abbrev pub f0 : Float
@@ -48,23 +48,23 @@ abbrev pub d : Between
 d = between lanes 1
 
 -- the moves of a schedule, one after the other
-abbrev pub movedAll : ℕ → Relay → List ℕ → Relay
-movedAll k r [] = r
-movedAll k r (i ∷ is) = movedAll k (moved k r i) is
+abbrev pub moved_all : ℕ → Relay → List ℕ → Relay
+moved_all k r [] = r
+moved_all k r (i ∷ is) = moved_all k (moved k r i) is
 
-abbrev eightOf : ℕ → List ℕ
-eightOf i = replicate 8 i
+abbrev eight_of : ℕ → List ℕ
+eight_of i = replicate 8 i
 
 -- "relay, k 2, unfilled lists, jobs (0,1), (0,3), (0,2)"
-abbrev pub atOpening : Relay
-atOpening = opened d (replicate 4 (unfilled 4 2)) (0 ∷ 1 ∷ 0 ∷ 3 ∷ 0 ∷ 2 ∷ [])
+abbrev pub at_opening : Relay
+at_opening = opened d (replicate 4 (unfilled 4 2)) (0 ∷ 1 ∷ 0 ∷ 3 ∷ 0 ∷ 2 ∷ [])
 
-abbrev pub listsI : List (List Neighbor)
-listsI = (movedAll 2 atOpening (eightOf 0 ++ (eightOf 1 ++ eightOf 2))).lists
+abbrev pub lists_i : List (List Neighbor)
+lists_i = (moved_all 2 at_opening (eight_of 0 ++ (eight_of 1 ++ eight_of 2))).lists
 
-then-more : (k : ℕ) (r : Relay) (xs ys : List ℕ) → movedAll k r (xs ++ ys) ≡ movedAll k (movedAll k r xs) ys
-then-more k r [] ys = refl
-then-more k r (x ∷ xs) ys = then-more k (moved k r x) xs ys
+then_more : (k : ℕ) (r : Relay) (xs ys : List ℕ) → moved_all k r (xs ++ ys) ≡ moved_all k (moved_all k r xs) ys
+then_more k r [] ys = refl
+then_more k r (x ∷ xs) ys = then_more k (moved k r x) xs ys
 
 abbrev waiting : ℕ → Float → Job
 waiting v x = record { u = 0; v = v; distance = x; first = fresh; second = fresh }
@@ -73,10 +73,10 @@ abbrev over : ℕ → Float → Job
 over v x = record { u = 0; v = v; distance = x; first = popped true true; second = popped true true }
 
 abbrev open4 : List Neighbor
-open4 = emptySlot 4 ∷ emptySlot 4 ∷ []
+open4 = empty_slot 4 ∷ empty_slot 4 ∷ []
 
 abbrev with0 : Float → List Neighbor
-with0 x = neighbor 0 x ∷ emptySlot 4 ∷ []
+with0 x = neighbor 0 x ∷ empty_slot 4 ∷ []
 
 -- as opened, and after each job
 abbrev at0 : Relay
@@ -85,7 +85,7 @@ at0 = record { lists = open4 ∷ open4 ∷ open4 ∷ open4 ∷ []; jobs = waitin
 abbrev at1 : Relay
 at1 =
     record {
-      lists = (neighbor 1 f1 ∷ emptySlot 4 ∷ []) ∷ with0 f1 ∷ open4 ∷ open4 ∷ [];
+      lists = (neighbor 1 f1 ∷ empty_slot 4 ∷ []) ∷ with0 f1 ∷ open4 ∷ open4 ∷ [];
       jobs = over 1 f1 ∷ waiting 3 f49 ∷ waiting 2 f9 ∷ [];
     }
 
@@ -96,37 +96,37 @@ at2 =
       jobs = over 1 f1 ∷ over 3 f49 ∷ waiting 2 f9 ∷ [];
     }
 
-abbrev pub atEnd : Relay
-atEnd =
+abbrev pub at_end : Relay
+at_end =
     record {
       lists = (neighbor 1 f1 ∷ neighbor 2 f9 ∷ []) ∷ with0 f1 ∷ with0 f9 ∷ with0 f49 ∷ [];
       jobs = over 1 f1 ∷ over 3 f49 ∷ over 2 f9 ∷ [];
     }
 
-to0 : atOpening ≡ at0
-unfolding opened job_of each unfilled between carried nodesApart lanes_of part distance_of answer fit total_of lane of_bits to_bits add sub mul
+to0 : at_opening ≡ at0
+unfolding opened job_of each unfilled between carried nodes_apart lanes_of part distance_of answer fit total_of lane of_bits to_bits add sub mul
 to0 = refl
 
-to1 : movedAll 2 at0 (eightOf 0) ≡ at1
-unfolding moved moveFirst moveSecond isPopped nextStage nextList look pop farthest insert before of_bits lt eq
+to1 : moved_all 2 at0 (eight_of 0) ≡ at1
+unfolding moved move_first move_second is_popped next_stage next_list look pop farthest insert before of_bits lt eq
 to1 = refl
 
-to2 : movedAll 2 at1 (eightOf 1) ≡ at2
-unfolding moved moveFirst moveSecond isPopped nextStage nextList look pop farthest insert before of_bits lt eq
+to2 : moved_all 2 at1 (eight_of 1) ≡ at2
+unfolding moved move_first move_second is_popped next_stage next_list look pop farthest insert before of_bits lt eq
 to2 = refl
 
-to3 : movedAll 2 at2 (eightOf 2) ≡ atEnd
-unfolding moved moveFirst moveSecond isPopped nextStage nextList look pop farthest insert before of_bits lt eq
+to3 : moved_all 2 at2 (eight_of 2) ≡ at_end
+unfolding moved move_first move_second is_popped next_stage next_list look pop farthest insert before of_bits lt eq
 to3 = refl
 
-whole : movedAll 2 atOpening (eightOf 0 ++ (eightOf 1 ++ eightOf 2)) ≡ atEnd
+whole : moved_all 2 at_opening (eight_of 0 ++ (eight_of 1 ++ eight_of 2)) ≡ at_end
 whole =
-    ap (λ (r : Relay). movedAll 2 r (eightOf 0 ++ (eightOf 1 ++ eightOf 2))) to0
-    ∙ then-more 2 at0 (eightOf 0) (eightOf 1 ++ eightOf 2)
-    ∙ ap (λ (r : Relay). movedAll 2 r (eightOf 1 ++ eightOf 2)) to1
-    ∙ then-more 2 at1 (eightOf 1) (eightOf 2)
-    ∙ ap (λ (r : Relay). movedAll 2 r (eightOf 2)) to2
+    ap (λ (r : Relay). moved_all 2 r (eight_of 0 ++ (eight_of 1 ++ eight_of 2))) to0
+    ∙ then_more 2 at0 (eight_of 0) (eight_of 1 ++ eight_of 2)
+    ∙ ap (λ (r : Relay). moved_all 2 r (eight_of 1 ++ eight_of 2)) to1
+    ∙ then_more 2 at1 (eight_of 1) (eight_of 2)
+    ∙ ap (λ (r : Relay). moved_all 2 r (eight_of 2)) to2
     ∙ to3
 
-pub ends : listsI ≡ atEnd.lists
+pub ends : lists_i ≡ at_end.lists
 ends = ap (λ (r : Relay). r.lists) whole

@@ -8,7 +8,7 @@ use borrow.Author.Tests.{ltb-false, eqb-true, eq-eqb, not-false, le-ltb}
 use lib.Dec.{eqb, ltb}
 use Rattle.rules.specs.Loops.{any_of}
 use Rattle.rules.specs.Numbers.{outside}
-use Rattle.rules.specs.Refusals.{Row, Code, passed, refused, decide, holds, notExactly}
+use Rattle.rules.specs.Refusals.{Row, Code, passed, refused, decide, holds, not_exactly}
 use Rattle.rules.proofs.Tests.{neither}
 
 -- ---- a row in front of others
@@ -68,9 +68,9 @@ abbrev pub Fail : List Row → Type 0
 Fail [] = Unit {0}
 Fail (r ∷ rs) = (r.test ≡ false) × Fail rs
 
-pub all-fail : (rs : List Row) → decide rs ≡ passed → Fail rs
-all-fail [] h = tt
-all-fail (r ∷ rs) h = let p = passes r rs h in (p.0, all-fail rs p.1)
+pub all_fail : (rs : List Row) → decide rs ≡ passed → Fail rs
+all_fail [] h = tt
+all_fail (r ∷ rs) h = let p = passes r rs h in (p.0, all_fail rs p.1)
 
 pub all_pass : (rs : List Row) → Fail rs → decide rs ≡ passed
 unfolding decide
@@ -83,22 +83,22 @@ abbrev pub None : List Bool → Type 0
 None [] = Unit {0}
 None (b ∷ bs) = (b ≡ false) × None bs
 
-pub none-hold : (bs : List Bool) → any_of holds bs ≡ false → None bs
+pub none_hold : (bs : List Bool) → any_of holds bs ≡ false → None bs
 unfolding any_of
-none-hold [] h = tt
-none-hold (b ∷ bs) h = let p = neither b (any_of holds bs) h in (p.0, none-hold bs p.1)
+none_hold [] h = tt
+none_hold (b ∷ bs) h = let p = neither b (any_of holds bs) h in (p.0, none_hold bs p.1)
 
-pub hold-none : (bs : List Bool) → None bs → any_of holds bs ≡ false
+pub hold_none : (bs : List Bool) → None bs → any_of holds bs ≡ false
 unfolding any_of
-hold-none [] F = refl
-hold-none (b ∷ bs) F = rw F.0 (hold-none bs F.1)
+hold_none [] F = refl
+hold_none (b ∷ bs) F = rw F.0 (hold_none bs F.1)
 
 -- ---- lengths
 
-pub exactly : (wanted len : ℕ) → notExactly wanted len ≡ false → len ≡ wanted
+pub exactly : (wanted len : ℕ) → not_exactly wanted len ≡ false → len ≡ wanted
 exactly wanted len h = eqb-true len wanted (not-false (eqb len wanted) h)
 
-pub is-exactly : (wanted len : ℕ) → len ≡ wanted → notExactly wanted len ≡ false
+pub is-exactly : (wanted len : ℕ) → len ≡ wanted → not_exactly wanted len ≡ false
 is-exactly wanted len e = rw (eq-eqb len wanted e)
 
 -- ---- ranges

@@ -6,21 +6,21 @@ use Prim.Native.Nat.{ℕ}
 use lib.Ieee.{Float, binary32, of_bits, to_bits, add, sub, mul, lt, eq}
 use Rattle.rules.specs.declared.Neighbor.{Neighbor}
 use Rattle.rules.specs.Loops.{turns, through, each, part}
-use Rattle.rules.specs.Distance.{lane, total_of, fit, answer, distance_of, carried, lanes_of, nodesApart, between, before}
+use Rattle.rules.specs.Distance.{lane, total_of, fit, answer, distance_of, carried, lanes_of, nodes_apart, between, before}
 use Rattle.rules.specs.Lists.{neighbor, insert}
-use Rattle.rules.specs.Rows.{emptySlot}
+use Rattle.rules.specs.Rows.{empty_slot}
 use Rattle.rules.specs.Search.{farthest}
 use Rattle.rules.specs.Offers.{look, pop, offer}
-use Rattle.rules.specs.Descent.{Context, Descent, Iterated, cross, ownPairs, risingWith, risingPairs, passes, offerTo, update, visit, isVisited, unvisit, meet, meet_all, newOf, old_of, swap, shuffleFrom, shuffle, drawnAfter, keptNew, keptBack, renew, renewAll, unvisitAll, membersBack, reversedOld, reversedNew, context_of, renewed, iterated}
-use Rattle.rules.specs.Relay.{Stage, fresh, looked, measured, popped, Relay, isPopped, nextStage, nextList, moveFirst, moveSecond, moved}
-use Rattle.rules.specs.DescentPlaces.{word_of, pairWords, bit_at}
+use Rattle.rules.specs.Descent.{Context, Descent, Iterated, cross, own_pairs, rising_with, rising_pairs, passes, offer_to, update, visit, is_visited, unvisit, meet, meet_all, new_of, old_of, swap, shuffle_from, shuffle, drawn_after, kept_new, kept_back, renew, renew_all, unvisit_all, members_back, reversed_old_of, reversed_new_of, context_of, renewed, iterated}
+use Rattle.rules.specs.Relay.{Stage, fresh, looked, measured, popped, Relay, is_popped, next_stage, next_list, move_first, move_second, moved}
+use Rattle.rules.specs.DescentPlaces.{word_of, pair_words, bit_at}
 
 abbrev f : ℕ → Float
 f bits = of_bits binary32 bits
 
 abbrev context : List ℕ → List ℕ → List ℕ → List ℕ → Context
-context new old reversed-new reversed-old =
-    record { new = new; old = old; reversed-new = reversed-new; reversed-old = reversed-old }
+context new old reversed_new reversed_old =
+    record { new = new; old = old; reversed_new = reversed_new; reversed_old = reversed_old }
 
 -- ---- an iteration: n 4, k 3, s 2, dimension 2
 
@@ -34,9 +34,9 @@ start =
     record {
       lists =
           (neighbor 1 (f 1077936128) ∷ neighbor 2 (f 1084227584) ∷ neighbor 3 (f 1099431936) ∷ [])
-          ∷ (neighbor 2 (f 1084227584) ∷ emptySlot 4 ∷ emptySlot 4 ∷ [])
+          ∷ (neighbor 2 (f 1084227584) ∷ empty_slot 4 ∷ empty_slot 4 ∷ [])
           ∷ (neighbor 1 (f 1073741824) ∷ neighbor 3 (f 1073741824) ∷ neighbor 3 (f 1090519040) ∷ [])
-          ∷ (neighbor 1 (f 1082130432) ∷ neighbor 1 (f 1088421888) ∷ emptySlot 4 ∷ [])
+          ∷ (neighbor 1 (f 1082130432) ∷ neighbor 1 (f 1088421888) ∷ empty_slot 4 ∷ [])
           ∷ [];
       contexts =
           context (0 ∷ 1 ∷ []) (2 ∷ 2 ∷ []) (1 ∷ 2 ∷ []) (0 ∷ [])
@@ -59,7 +59,7 @@ thrice node bits = neighbor node (f bits) ∷ neighbor node (f bits) ∷ neighbo
 
 -- the pairs of each flag, as words
 abbrev words : List Bool → List ℕ
-words flags = pairWords 1 flags
+words flags = pair_words 1 flags
 
 pub record Iteration : Type 0 where
   pub cost : once.cost ≡ 33
@@ -81,7 +81,7 @@ pub record Iteration : Type 0 where
   pub visited : words once.descent.visited ≡ 15803 ∷ []
 
 pub iteration : Iteration
-unfolding turns through each part lane total_of fit answer distance_of carried lanes_of nodesApart between before insert farthest look pop offer cross ownPairs risingWith risingPairs passes offerTo update visit isVisited unvisit meet meet_all newOf old_of swap shuffleFrom shuffle drawnAfter keptNew keptBack renew renewAll unvisitAll membersBack reversedOld reversedNew context_of renewed iterated word_of pairWords bit_at of_bits to_bits add sub mul lt eq
+unfolding turns through each part lane total_of fit answer distance_of carried lanes_of nodes_apart between before insert farthest look pop offer cross own_pairs rising_with rising_pairs passes offer_to update visit is_visited unvisit meet meet_all new_of old_of swap shuffle_from shuffle drawn_after kept_new kept_back renew renew_all unvisit_all members_back reversed_old_of reversed_new_of context_of renewed iterated word_of pair_words bit_at of_bits to_bits add sub mul lt eq
 iteration = record { cost = refl; new = refl; lists = refl; contexts = refl; visited = refl }
 
 -- ---- a look at a list longer than k: k 1, and the list's last is the unfilled entry behind a nearer one
@@ -89,12 +89,12 @@ iteration = record { cost = refl; new = refl; lists = refl; contexts = refl; vis
 abbrev relay : Stage → Relay
 relay second =
     record {
-      lists = [] ∷ [] ∷ (neighbor 4 (f 1065353216) ∷ emptySlot 5 ∷ []) ∷ [] ∷ [] ∷ [];
+      lists = [] ∷ [] ∷ (neighbor 4 (f 1065353216) ∷ empty_slot 5 ∷ []) ∷ [] ∷ [] ∷ [];
       jobs = record { u = 0; v = 2; distance = f 1098907648; first = popped true true; second = second } ∷ [];
     }
 
 pub look-at-last : moved 1 (relay fresh) 0 ≡ relay (looked true)
-unfolding moved moveSecond isPopped nextStage nextList look farthest of_bits lt
+unfolding moved move_second is_popped next_stage next_list look farthest of_bits lt
 look-at-last = refl
 
 -- ---- steps of a job (1, 2) with k 1, at the distance of list 1's last: by 01's sentences
@@ -107,16 +107,16 @@ pair v list first =
     }
 
 -- "look (taken up unless the distance is greater than the list's last)": an equal distance is taken up
-pub look-at-equal : moved 1 (pair 2 (neighbor 0 (f 1065353216) ∷ []) fresh) 0 ≡ pair 2 (neighbor 0 (f 1065353216) ∷ []) (looked true)
-unfolding moved moveFirst isPopped nextStage nextList look farthest of_bits lt
-look-at-equal = refl
+pub look-at_equal : moved 1 (pair 2 (neighbor 0 (f 1065353216) ∷ []) fresh) 0 ≡ pair 2 (neighbor 0 (f 1065353216) ∷ []) (looked true)
+unfolding moved move_first is_popped next_stage next_list look farthest of_bits lt
+look-at_equal = refl
 
 -- "all eight of a job with u = v, do nothing": its look takes nothing up
-pub look-of-itself : moved 1 (pair 1 (neighbor 0 (f 1065353216) ∷ []) fresh) 0 ≡ pair 1 (neighbor 0 (f 1065353216) ∷ []) (looked false)
-unfolding moved moveFirst isPopped nextStage nextList
-look-of-itself = refl
+pub look_of_itself : moved 1 (pair 1 (neighbor 0 (f 1065353216) ∷ []) fresh) 0 ≡ pair 1 (neighbor 0 (f 1065353216) ∷ []) (looked false)
+unfolding moved move_first is_popped next_stage next_list
+look_of_itself = refl
 
 -- "pop the last if so"
-pub pop-of-last : moved 1 (pair 2 (neighbor 0 (f 1065353216) ∷ neighbor 2 (f 1065353216) ∷ []) (measured true true)) 0 ≡ pair 2 (neighbor 0 (f 1065353216) ∷ []) (popped true true)
-unfolding moved moveFirst isPopped nextStage nextList pop
-pop-of-last = refl
+pub pop_of_last : moved 1 (pair 2 (neighbor 0 (f 1065353216) ∷ neighbor 2 (f 1065353216) ∷ []) (measured true true)) 0 ≡ pair 2 (neighbor 0 (f 1065353216) ∷ []) (popped true true)
+unfolding moved move_first is_popped next_stage next_list pop
+pop_of_last = refl

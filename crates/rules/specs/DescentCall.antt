@@ -2,12 +2,12 @@
 use Rattle.std.specs.Prelude.{List, ℕ, length, replicate, Float}
 use Rattle.rules.specs.declared.IterateAnswer.{IterateAnswer}
 use Rattle.rules.specs.declared.IterateAnswer.TheVariants.{Iterated, Refused}
-use Rattle.rules.specs.Distance.{nodesApart, between, zero32}
-use Rattle.rules.specs.Refusals.{Code, code_of, noRefusal, Row, Decision, passed, refused, decide}
-use Rattle.rules.specs.Calls.{scratch, beginRows, iterateRows}
+use Rattle.rules.specs.Distance.{nodes_apart, between, zero32}
+use Rattle.rules.specs.Refusals.{Code, code_of, no_refusal, Row, Decision, passed, refused, decide}
+use Rattle.rules.specs.Calls.{scratch, begin_rows, iterate_rows}
 use Rattle.rules.specs.Descent as descent
-use Rattle.rules.specs.Places.{listFloats}
-use Rattle.rules.specs.DescentPlaces.{descentState, descentIn, descentFormed}
+use Rattle.rules.specs.Places.{list_floats}
+use Rattle.rules.specs.DescentPlaces.{descent_state, descent_in, descent_formed}
 
 pub record DescentLent : Type 0 where
   pub dimension : ℕ
@@ -16,57 +16,57 @@ pub record DescentLent : Type 0 where
   pub k : ℕ
   pub s : ℕ
   pub draws : List ℕ
-  pub state-u : List ℕ
-  pub state-f : List Float
-  pub scratch-u : List ℕ
-  pub scratch-f : List Float
+  pub state_u : List ℕ
+  pub state_f : List Float
+  pub scratch_u : List ℕ
+  pub scratch_f : List Float
 
 -- the lent buffers as they are left
 pub record DescentLeft : Type 0 where
-  pub state-u : List ℕ
-  pub state-f : List Float
-  pub scratch-u : List ℕ
-  pub scratch-f : List Float
+  pub state_u : List ℕ
+  pub state_f : List Float
+  pub scratch_u : List ℕ
+  pub scratch_f : List Float
 
 -- "A refusal .. changes no lent byte"
-unfoldable pub descentKept : DescentLent → DescentLeft
-descentKept l = record { state-u = l.state-u; state-f = l.state-f; scratch-u = l.scratch-u; scratch-f = l.scratch-f }
+unfoldable pub descent_kept : DescentLent → DescentLeft
+descent_kept l = record { state_u = l.state_u; state_f = l.state_f; scratch_u = l.scratch_u; scratch_f = l.scratch_f }
 
 -- "scratch is all zero .. after success"
-unfoldable pub descentWritten : DescentLent → descent.Descent → DescentLeft
-descentWritten l x =
+unfoldable pub descent_written : DescentLent → descent.Descent → DescentLeft
+descent_written l x =
     record {
-      state-u = descentState l.n x;
-      state-f = listFloats x.lists;
-      scratch-u = replicate (length l.scratch-u) 0;
-      scratch-f = replicate (length l.scratch-f) zero32;
+      state_u = descent_state l.n x;
+      state_f = list_floats x.lists;
+      scratch_u = replicate (length l.scratch_u) 0;
+      scratch_f = replicate (length l.scratch_f) zero32;
     }
 
 -- ---- begin
 
-unfoldable pub beginTable : DescentLent → List Row
-beginTable l =
-    beginRows l.dimension l.n (length l.lanes) l.k l.s (length l.state-u) (length l.state-f)
-    (scratch (length l.scratch-u) (length l.scratch-f)) (nodesApart l.lanes l.dimension) (length l.draws)
+unfoldable pub begin_table : DescentLent → List Row
+begin_table l =
+    begin_rows l.dimension l.n (length l.lanes) l.k l.s (length l.state_u) (length l.state_f)
+    (scratch (length l.scratch_u) (length l.scratch_f)) (nodes_apart l.lanes l.dimension) (length l.draws)
 
 pub record BeginOutcome : Type 0 where
   pub said : Code
   pub left : DescentLeft
 
-unfoldable pub beginObeys : DescentLent → Decision → BeginOutcome
-beginObeys l passed = record { said = noRefusal; left = descentWritten l (descent.begun l.draws l.n l.k l.s) }
-beginObeys l (refused c) = record { said = c; left = descentKept l }
+unfoldable pub begin_obeys : DescentLent → Decision → BeginOutcome
+begin_obeys l passed = record { said = no_refusal; left = descent_written l (descent.begun l.draws l.n l.k l.s) }
+begin_obeys l (refused c) = record { said = c; left = descent_kept l }
 
-unfoldable pub beginRule : DescentLent → BeginOutcome
-beginRule l = beginObeys l (decide (beginTable l))
+unfoldable pub begin_rule : DescentLent → BeginOutcome
+begin_rule l = begin_obeys l (decide (begin_table l))
 
 -- ---- iterate
 
-unfoldable pub iterateTable : DescentLent → List Row
-iterateTable l =
-    iterateRows l.dimension l.n (length l.lanes) l.k l.s (length l.state-u) (length l.state-f)
-    (scratch (length l.scratch-u) (length l.scratch-f)) (nodesApart l.lanes l.dimension) (length l.draws)
-    (descentFormed l.n l.k l.state-u l.state-f)
+unfoldable pub iterate_table : DescentLent → List Row
+iterate_table l =
+    iterate_rows l.dimension l.n (length l.lanes) l.k l.s (length l.state_u) (length l.state_f)
+    (scratch (length l.scratch_u) (length l.scratch_f)) (nodes_apart l.lanes l.dimension) (length l.draws)
+    (descent_formed l.n l.k l.state_u l.state_f)
 
 -- the cost and the total of new; "A refusal has counts 0"
 pub record IterateSaid : Type 0 where
@@ -74,24 +74,24 @@ pub record IterateSaid : Type 0 where
   pub cost : ℕ
   pub new : ℕ
 
-unfoldable pub iterateSaid : IterateAnswer → IterateSaid
-iterateSaid (Iterated cost new) = record { code = noRefusal; cost = cost; new = new }
-iterateSaid (Refused r) = record { code = code_of r; cost = 0; new = 0 }
+unfoldable pub iterate_said : IterateAnswer → IterateSaid
+iterate_said (Iterated cost new) = record { code = no_refusal; cost = cost; new = new }
+iterate_said (Refused r) = record { code = code_of r; cost = 0; new = 0 }
 
 pub record IterateOutcome : Type 0 where
   pub said : IterateSaid
   pub left : DescentLeft
 
-unfoldable pub iterateEnds : DescentLent → descent.Iterated → IterateOutcome
-iterateEnds l x =
-    record { said = record { code = noRefusal; cost = x.cost; new = x.new }; left = descentWritten l x.descent }
+unfoldable pub iterate_ends : DescentLent → descent.Iterated → IterateOutcome
+iterate_ends l x =
+    record { said = record { code = no_refusal; cost = x.cost; new = x.new }; left = descent_written l x.descent }
 
-unfoldable pub iterateObeys : DescentLent → Decision → IterateOutcome
-iterateObeys l passed =
-    iterateEnds l
+unfoldable pub iterate_obeys : DescentLent → Decision → IterateOutcome
+iterate_obeys l passed =
+    iterate_ends l
     (descent.iterated (between l.lanes l.dimension) l.draws l.n l.k l.s
-    (descentIn l.n l.k l.state-u l.state-f))
-iterateObeys l (refused c) = record { said = record { code = c; cost = 0; new = 0 }; left = descentKept l }
+    (descent_in l.n l.k l.state_u l.state_f))
+iterate_obeys l (refused c) = record { said = record { code = c; cost = 0; new = 0 }; left = descent_kept l }
 
-unfoldable pub iterateRule : DescentLent → IterateOutcome
-iterateRule l = iterateObeys l (decide (iterateTable l))
+unfoldable pub iterate_rule : DescentLent → IterateOutcome
+iterate_rule l = iterate_obeys l (decide (iterate_table l))

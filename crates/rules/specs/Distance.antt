@@ -40,9 +40,9 @@ pub record Measure : Type 0 where
   pub number : ℕ
   pub value : Float
 
-unfoldable pub measureOf : Distance → Measure
-measureOf (Fit x) = record { number = 0; value = x }
-measureOf Unfit = record { number = 10; value = zero32 }
+unfoldable pub measure_of : Distance → Measure
+measure_of (Fit x) = record { number = 0; value = x }
+measure_of Unfit = record { number = 10; value = zero32 }
 
 unfoldable pub unfit : Distance → Bool
 unfit (Fit x) = false
@@ -58,15 +58,15 @@ unfoldable pub lanes_of : List Float → ℕ → ℕ → List Float
 lanes_of lanes dimension node = part dimension node lanes
 
 -- the distance of two nodes, and of a node and a query
-unfoldable pub nodesApart : List Float → ℕ → ℕ → ℕ → Distance
-nodesApart lanes dimension i j = distance_of (lanes_of lanes dimension i) (lanes_of lanes dimension j)
+unfoldable pub nodes_apart : List Float → ℕ → ℕ → ℕ → Distance
+nodes_apart lanes dimension i j = distance_of (lanes_of lanes dimension i) (lanes_of lanes dimension j)
 
-unfoldable pub queryApart : List Float → ℕ → List Float → ℕ → Distance
-queryApart lanes dimension query i = distance_of (lanes_of lanes dimension i) query
+unfoldable pub query_apart : List Float → ℕ → List Float → ℕ → Distance
+query_apart lanes dimension query i = distance_of (lanes_of lanes dimension i) query
 
 -- what build, descent and relay are told of distances, once row 10 has passed
 unfoldable pub between : List Float → ℕ → ℕ → ℕ → Float
-between lanes dimension i j = carried (nodesApart lanes dimension i j)
+between lanes dimension i j = carried (nodes_apart lanes dimension i j)
 
 -- "Order: by distance, then node number."
 unfoldable pub before : Neighbor → Neighbor → Bool

@@ -27,11 +27,11 @@ place e [] = zero
 place e (x ∷ xs) = cond (before e x) zero (suc (place e xs))
 
 -- each of es inserted
-unfoldable pub insertAll : List Neighbor → List Neighbor → List Neighbor
-insertAll es xs = through insert es xs
+unfoldable pub insert_all : List Neighbor → List Neighbor → List Neighbor
+insert_all es xs = through insert es xs
 
 unfoldable pub sort : List Neighbor → List Neighbor
-sort es = insertAll es []
+sort es = insert_all es []
 
 -- "the least k .. (all, if fewer)"
 unfoldable pub least : ℕ → List Neighbor → List Neighbor
@@ -41,11 +41,11 @@ abbrev pub node_of : Neighbor → ℕ
 node_of e = e.node.0
 
 -- the node numbers of entries, their distances, and these by their bits
-unfoldable pub nodesOf : List Neighbor → List ℕ
-nodesOf es = map node_of es
+unfoldable pub nodes_of : List Neighbor → List ℕ
+nodes_of es = map node_of es
 
-unfoldable pub distancesOf : List Neighbor → List Float
-distancesOf es = map (λ (e : Neighbor). e.distance) es
+unfoldable pub distances_of : List Neighbor → List Float
+distances_of es = map (λ (e : Neighbor). e.distance) es
 
 unfoldable pub bits_of : List Neighbor → List ℕ
 bits_of es = map (λ (e : Neighbor). to_bits binary32 e.distance) es

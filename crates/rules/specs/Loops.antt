@@ -17,9 +17,9 @@ each f zero = []
 each f (suc i) = each f i ++ f i
 
 -- the first of the places i, i + 1, .. of which the test holds, with t places to try; the place after them where there is none
-unfoldable pub firstFrom : (ℕ → Bool) → ℕ → ℕ → ℕ
-firstFrom p i zero = i
-firstFrom p i (suc t) = cond (p i) i (firstFrom p (suc i) t)
+unfoldable pub first_from : (ℕ → Bool) → ℕ → ℕ → ℕ
+first_from p i zero = i
+first_from p i (suc t) = cond (p i) i (first_from p (suc i) t)
 
 unfoldable pub any_of : {A : Type 0} → (A → Bool) → List A → Bool
 any_of p [] = false
@@ -34,8 +34,8 @@ unfoldable pub part : {A : Type 0} → ℕ → ℕ → List A → List A
 part w q xs = take w (drop (q * w) xs)
 
 -- the list with its q-th part replaced
-unfoldable pub putPart : {A : Type 0} → ℕ → ℕ → List A → List A → List A
-putPart w q ys xs = take (q * w) xs ++ (ys ++ drop (q * w + w) xs)
+unfoldable pub put_part : {A : Type 0} → ℕ → ℕ → List A → List A → List A
+put_part w q ys xs = take (q * w) xs ++ (ys ++ drop (q * w + w) xs)
 
 -- the first m of src, over dst
 unfoldable pub over : {A : Type 0} → ℕ → List A → List A → List A

@@ -5,39 +5,39 @@ use Rattle.std.specs.Float.{binary32}
 use Rattle.rules.specs.declared.Neighbor.{Neighbor}
 use Rattle.rules.specs.Distance.{before, fit}
 use Rattle.rules.specs.Lists.{node_of, insert}
-use Rattle.rules.specs.Rows.{emptySlot}
+use Rattle.rules.specs.Rows.{empty_slot}
 use Rattle.rules.specs.Search.{farthest}
 
 -- "A list has k entries, ascending; an unfilled one is (n, 0x7F7FFFFF)."
 unfoldable pub unfilled : ℕ → ℕ → List Neighbor
-unfilled n k = replicate k (emptySlot n)
+unfilled n k = replicate k (empty_slot n)
 
-abbrev pub emptyBits : ℕ
-emptyBits = 0x7F7FFFFF
+abbrev pub empty_bits : ℕ
+empty_bits = 0x7F7FFFFF
 
 -- "no node above n, node n exactly with that distance, all other distances fit"
-unfoldable pub entryFormed : ℕ → Neighbor → Bool
-entryFormed n e = cond (eqb (node_of e) n) (eqb (to_bits binary32 e.distance) emptyBits) (ltb (node_of e) n && fit e.distance)
+unfoldable pub entry_formed : ℕ → Neighbor → Bool
+entry_formed n e = cond (eqb (node_of e) n) (eqb (to_bits binary32 e.distance) empty_bits) (ltb (node_of e) n && fit e.distance)
 
-unfoldable pub entriesFormed : ℕ → List Neighbor → Bool
-entriesFormed n [] = true
-entriesFormed n (e ∷ es) = entryFormed n e && entriesFormed n es
+unfoldable pub entries_formed : ℕ → List Neighbor → Bool
+entries_formed n [] = true
+entries_formed n (e ∷ es) = entry_formed n e && entries_formed n es
 
 -- "ascending": no entry precedes the one in front of it; equal entries may stand side by side
-unfoldable pub inOrder : Neighbor → List Neighbor → Bool
-inOrder x [] = true
-inOrder x (y ∷ ys) = not (before y x) && inOrder y ys
+unfoldable pub in_order : Neighbor → List Neighbor → Bool
+in_order x [] = true
+in_order x (y ∷ ys) = not (before y x) && in_order y ys
 
 unfoldable pub ascending : List Neighbor → Bool
 ascending [] = true
-ascending (x ∷ xs) = inOrder x xs
+ascending (x ∷ xs) = in_order x xs
 
-unfoldable pub listFormed : ℕ → List Neighbor → Bool
-listFormed n l = ascending l && entriesFormed n l
+unfoldable pub list_formed : ℕ → List Neighbor → Bool
+list_formed n l = ascending l && entries_formed n l
 
-unfoldable pub listsFormed : ℕ → List (List Neighbor) → Bool
-listsFormed n [] = true
-listsFormed n (l ∷ ls) = listFormed n l && listsFormed n ls
+unfoldable pub lists_formed : ℕ → List (List Neighbor) → Bool
+lists_formed n [] = true
+lists_formed n (l ∷ ls) = list_formed n l && lists_formed n ls
 
 -- "look (taken up unless the distance is greater than the list's last)"
 unfoldable pub look : Neighbor → List Neighbor → Bool

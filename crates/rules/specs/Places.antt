@@ -4,7 +4,7 @@ use Rattle.std.specs.Float.{binary32}
 use Rattle.std.specs.Float.Ieee.{to_bits}
 use Rattle.rules.specs.declared.Neighbor.{Neighbor}
 use Rattle.rules.specs.Loops.{each, part}
-use Rattle.rules.specs.Lists.{entries, nodesOf, distancesOf}
+use Rattle.rules.specs.Lists.{entries, nodes_of, distances_of}
 
 module _ {A : Type 0} where
   -- "unused places .. zero": xs, then z up to n places
@@ -18,18 +18,18 @@ same_words (x ∷ xs) [] = false
 same_words (x ∷ xs) (y ∷ ys) = eqb x y && same_words xs ys
 
 -- distances are judged by their bits
-unfoldable pub sameFloats : List Float → List Float → Bool
-sameFloats xs ys = same_words (map (to_bits binary32) xs) (map (to_bits binary32) ys)
+unfoldable pub same_floats : List Float → List Float → Bool
+same_floats xs ys = same_words (map (to_bits binary32) xs) (map (to_bits binary32) ys)
 
 -- ---- lists of k entries: nk u32 and nk f32
 
-unfoldable pub listWords : List (List Neighbor) → List ℕ
-listWords [] = []
-listWords (l ∷ ls) = nodesOf l ++ listWords ls
+unfoldable pub list_words : List (List Neighbor) → List ℕ
+list_words [] = []
+list_words (l ∷ ls) = nodes_of l ++ list_words ls
 
-unfoldable pub listFloats : List (List Neighbor) → List Float
-listFloats [] = []
-listFloats (l ∷ ls) = distancesOf l ++ listFloats ls
+unfoldable pub list_floats : List (List Neighbor) → List Float
+list_floats [] = []
+list_floats (l ∷ ls) = distances_of l ++ list_floats ls
 
-unfoldable pub listsIn : ℕ → ℕ → List ℕ → List Float → List (List Neighbor)
-listsIn n k us fs = each (λ (i : ℕ). entries k (part k i us) (part k i fs) ∷ []) n
+unfoldable pub lists_in : ℕ → ℕ → List ℕ → List Float → List (List Neighbor)
+lists_in n k us fs = each (λ (i : ℕ). entries k (part k i us) (part k i fs) ∷ []) n

@@ -1,13 +1,13 @@
 -- The whole outcome of an opening, a move and a close. Assumes nothing.
 use Rattle.std.specs.Prelude.{◌||◌, List, ℕ, leb, ltb, length, replicate, Float}
 use Rattle.rules.specs.Loops.{over}
-use Rattle.rules.specs.Distance.{nodesApart, between, zero32}
-use Rattle.rules.specs.Refusals.{Code, noRefusal, Row, Decision, passed, refused, decide}
-use Rattle.rules.specs.Calls.{scratch, open_rows, moveRows, closeRows}
-use Rattle.rules.specs.Offers.{listsFormed}
-use Rattle.rules.specs.Relay.{Relay, opened, moved, isFinished, jobAt, lowestUnfinished, reportsOf}
-use Rattle.rules.specs.Places.{listsIn, listWords, listFloats}
-use Rattle.rules.specs.RelayPlaces.{relayState, relayStateFloats, relayIn, relayFormed}
+use Rattle.rules.specs.Distance.{nodes_apart, between, zero32}
+use Rattle.rules.specs.Refusals.{Code, no_refusal, Row, Decision, passed, refused, decide}
+use Rattle.rules.specs.Calls.{scratch, open_rows, move_rows, close_rows}
+use Rattle.rules.specs.Offers.{lists_formed}
+use Rattle.rules.specs.Relay.{Relay, opened, moved, is_finished, job_at, lowest_unfinished, reports_of}
+use Rattle.rules.specs.Places.{lists_in, list_words, list_floats}
+use Rattle.rules.specs.RelayPlaces.{relay_state, relay_state_floats, relay_in, relay_formed}
 
 -- ---- open
 
@@ -19,42 +19,42 @@ pub record OpenLent : Type 0 where
   pub nodes : List ℕ
   pub distances : List Float
   pub jobs : List ℕ
-  pub state-u : List ℕ
-  pub state-f : List Float
-  pub scratch-u : List ℕ
-  pub scratch-f : List Float
+  pub state_u : List ℕ
+  pub state_f : List Float
+  pub scratch_u : List ℕ
+  pub scratch_f : List Float
 
 pub record OpenOutcome : Type 0 where
   pub said : Code
-  pub state-u : List ℕ
-  pub state-f : List Float
-  pub scratch-u : List ℕ
-  pub scratch-f : List Float
+  pub state_u : List ℕ
+  pub state_f : List Float
+  pub scratch_u : List ℕ
+  pub scratch_f : List Float
 
-unfoldable pub openTable : OpenLent → List Row
-openTable l =
+unfoldable pub open_table : OpenLent → List Row
+open_table l =
     open_rows l.dimension l.n (length l.lanes) l.k (length l.nodes) (length l.distances) l.jobs (length l.jobs)
-    (length l.state-u) (length l.state-f) (scratch (length l.scratch-u) (length l.scratch-f))
-    (nodesApart l.lanes l.dimension) (listsFormed l.n (listsIn l.n l.k l.nodes l.distances))
+    (length l.state_u) (length l.state_f) (scratch (length l.scratch_u) (length l.scratch_f))
+    (nodes_apart l.lanes l.dimension) (lists_formed l.n (lists_in l.n l.k l.nodes l.distances))
 
 -- "A relay is opened on lists (nk u32, nk f32) and jobs (u, v)"
-unfoldable pub openedOn : OpenLent → Relay
-openedOn l = opened (between l.lanes l.dimension) (listsIn l.n l.k l.nodes l.distances) l.jobs
+unfoldable pub opened_on : OpenLent → Relay
+opened_on l = opened (between l.lanes l.dimension) (lists_in l.n l.k l.nodes l.distances) l.jobs
 
-unfoldable pub openObeys : OpenLent → Decision → OpenOutcome
-openObeys l passed =
+unfoldable pub open_obeys : OpenLent → Decision → OpenOutcome
+open_obeys l passed =
     record {
-      said = noRefusal;
-      state-u = relayState l.k (openedOn l);
-      state-f = relayStateFloats l.k (openedOn l);
-      scratch-u = replicate (length l.scratch-u) 0;
-      scratch-f = replicate (length l.scratch-f) zero32;
+      said = no_refusal;
+      state_u = relay_state l.k (opened_on l);
+      state_f = relay_state_floats l.k (opened_on l);
+      scratch_u = replicate (length l.scratch_u) 0;
+      scratch_f = replicate (length l.scratch_f) zero32;
     }
-openObeys l (refused c) =
-    record { said = c; state-u = l.state-u; state-f = l.state-f; scratch-u = l.scratch-u; scratch-f = l.scratch-f }
+open_obeys l (refused c) =
+    record { said = c; state_u = l.state_u; state_f = l.state_f; scratch_u = l.scratch_u; scratch_f = l.scratch_f }
 
-unfoldable pub openRule : OpenLent → OpenOutcome
-openRule l = openObeys l (decide (openTable l))
+unfoldable pub open_rule : OpenLent → OpenOutcome
+open_rule l = open_obeys l (decide (open_table l))
 
 -- ---- move
 
@@ -62,42 +62,42 @@ pub record MoveLent : Type 0 where
   pub n : ℕ
   pub k : ℕ
   pub job : ℕ
-  pub state-u : List ℕ
-  pub state-f : List Float
+  pub state_u : List ℕ
+  pub state_f : List Float
 
 pub record MoveOutcome : Type 0 where
   pub said : Code
-  pub state-u : List ℕ
-  pub state-f : List Float
+  pub state_u : List ℕ
+  pub state_f : List Float
 
-abbrev pub relayOf : MoveLent → Relay
-relayOf l = relayIn l.n l.k l.state-u l.state-f
+abbrev pub relay_of : MoveLent → Relay
+relay_of l = relay_in l.n l.k l.state_u l.state_f
 
 -- "a move for an absent or finished job"
-unfoldable pub moveTable : MoveLent → List Row
-moveTable l =
-    moveRows l.n l.k (length l.state-u) (length l.state-f) (relayFormed l.n l.k l.state-u l.state-f)
-    (leb (length (relayOf l).jobs) l.job || isFinished (jobAt (relayOf l) l.job)) l.job
+unfoldable pub move_table : MoveLent → List Row
+move_table l =
+    move_rows l.n l.k (length l.state_u) (length l.state_f) (relay_formed l.n l.k l.state_u l.state_f)
+    (leb (length (relay_of l).jobs) l.job || is_finished (job_at (relay_of l) l.job)) l.job
 
-unfoldable pub moveObeys : MoveLent → Decision → MoveOutcome
-moveObeys l passed =
+unfoldable pub move_obeys : MoveLent → Decision → MoveOutcome
+move_obeys l passed =
     record {
-      said = noRefusal;
-      state-u = relayState l.k (moved l.k (relayOf l) l.job);
-      state-f = relayStateFloats l.k (moved l.k (relayOf l) l.job);
+      said = no_refusal;
+      state_u = relay_state l.k (moved l.k (relay_of l) l.job);
+      state_f = relay_state_floats l.k (moved l.k (relay_of l) l.job);
     }
-moveObeys l (refused c) = record { said = c; state-u = l.state-u; state-f = l.state-f }
+move_obeys l (refused c) = record { said = c; state_u = l.state_u; state_f = l.state_f }
 
-unfoldable pub moveRule : MoveLent → MoveOutcome
-moveRule l = moveObeys l (decide (moveTable l))
+unfoldable pub move_rule : MoveLent → MoveOutcome
+move_rule l = move_obeys l (decide (move_table l))
 
 -- ---- close: "cuts nothing, writes the lists .., each job's two reports .. the rest unchanged, and leaves the state"
 
 pub record CloseLent : Type 0 where
   pub n : ℕ
   pub k : ℕ
-  pub state-u : List ℕ
-  pub state-f : List Float
+  pub state_u : List ℕ
+  pub state_f : List Float
   pub nodes : List ℕ
   pub distances : List Float
   pub reports : List ℕ
@@ -109,24 +109,24 @@ pub record CloseOutcome : Type 0 where
   pub reports : List ℕ
 
 abbrev pub closing : CloseLent → Relay
-closing l = relayIn l.n l.k l.state-u l.state-f
+closing l = relay_in l.n l.k l.state_u l.state_f
 
 -- "a close with one unfinished": "the lowest unfinished"
-unfoldable pub closeTable : CloseLent → List Row
-closeTable l =
-    closeRows l.n l.k (length l.state-u) (length l.state-f) (length l.nodes) (length l.distances) (length l.reports)
-    (relayFormed l.n l.k l.state-u l.state-f) (ltb (lowestUnfinished (closing l)) (length (closing l).jobs))
-    (lowestUnfinished (closing l))
+unfoldable pub close_table : CloseLent → List Row
+close_table l =
+    close_rows l.n l.k (length l.state_u) (length l.state_f) (length l.nodes) (length l.distances) (length l.reports)
+    (relay_formed l.n l.k l.state_u l.state_f) (ltb (lowest_unfinished (closing l)) (length (closing l).jobs))
+    (lowest_unfinished (closing l))
 
-unfoldable pub closeObeys : CloseLent → Decision → CloseOutcome
-closeObeys l passed =
+unfoldable pub close_obeys : CloseLent → Decision → CloseOutcome
+close_obeys l passed =
     record {
-      said = noRefusal;
-      nodes = listWords (closing l).lists;
-      distances = listFloats (closing l).lists;
-      reports = over (length (reportsOf (closing l).jobs)) (reportsOf (closing l).jobs) l.reports;
+      said = no_refusal;
+      nodes = list_words (closing l).lists;
+      distances = list_floats (closing l).lists;
+      reports = over (length (reports_of (closing l).jobs)) (reports_of (closing l).jobs) l.reports;
     }
-closeObeys l (refused c) = record { said = c; nodes = l.nodes; distances = l.distances; reports = l.reports }
+close_obeys l (refused c) = record { said = c; nodes = l.nodes; distances = l.distances; reports = l.reports }
 
-unfoldable pub closeRule : CloseLent → CloseOutcome
-closeRule l = closeObeys l (decide (closeTable l))
+unfoldable pub close_rule : CloseLent → CloseOutcome
+close_rule l = close_obeys l (decide (close_table l))

@@ -4,27 +4,27 @@ use Rattle.std.specs.Float.{binary32}
 use Rattle.std.specs.Float.Ieee.{of_bits, eq}
 use Rattle.rules.specs.declared.Neighbor.{Neighbor}
 use Rattle.rules.specs.Loops.{part}
-use Rattle.rules.specs.Lists.{neighbor, nodesOf}
+use Rattle.rules.specs.Lists.{neighbor, nodes_of}
 
 -- "A row is read up to its first value of n or more, so any graph contents are legal."
-unfoldable pub liveNodes : ℕ → List ℕ → List ℕ
-liveNodes n [] = []
-liveNodes n (v ∷ vs) = cond (ltb v n) (v ∷ liveNodes n vs) []
+unfoldable pub live_nodes : ℕ → List ℕ → List ℕ
+live_nodes n [] = []
+live_nodes n (v ∷ vs) = cond (ltb v n) (v ∷ live_nodes n vs) []
 
 -- the live part of row q of a graph
-unfoldable pub graphRow : ℕ → ℕ → List ℕ → ℕ → List ℕ
-graphRow n index-size graph q = liveNodes n (part index-size q graph)
+unfoldable pub graph_row : ℕ → ℕ → List ℕ → ℕ → List ℕ
+graph_row n index_size graph q = live_nodes n (part index_size q graph)
 
 -- "distance 0x7F7FFFFF ("empty")"
-abbrev pub emptyDistance : Float
-emptyDistance = of_bits binary32 0x7F7FFFFF
+abbrev pub empty_distance : Float
+empty_distance = of_bits binary32 0x7F7FFFFF
 
 unfoldable pub is_empty : Neighbor → Bool
-is_empty e = eq e.distance emptyDistance
+is_empty e = eq e.distance empty_distance
 
 -- "Empty slots hold node n and distance 0x7F7FFFFF"
-abbrev pub emptySlot : ℕ → Neighbor
-emptySlot n = neighbor n emptyDistance
+abbrev pub empty_slot : ℕ → Neighbor
+empty_slot n = neighbor n empty_distance
 
 -- "A row's live part ends at its first empty distance."
 unfoldable pub live : List Neighbor → List Neighbor
@@ -33,4 +33,4 @@ live (e ∷ es) = cond (is_empty e) [] (e ∷ live es)
 
 -- "Each graph row is the live nodes, then n in every slot left."
 unfoldable pub finished : ℕ → ℕ → List Neighbor → List ℕ
-finished n index-size row = nodesOf (live row) ++ replicate (index-size - length (live row)) n
+finished n index_size row = nodes_of (live row) ++ replicate (index_size - length (live row)) n

@@ -6,7 +6,7 @@ use Rattle.rules.specs.declared.Distance.TheVariants.{Fit, Unfit}
 use Rattle.rules.specs.declared.Neighbor.{Neighbor}
 use Rattle.rules.specs.Loops.{through}
 use Rattle.rules.specs.Distance.{zero32}
-use Rattle.rules.specs.Lists.{neighbor, node_of, nodesOf, insert}
+use Rattle.rules.specs.Lists.{neighbor, node_of, nodes_of, insert}
 
 -- The state of the walk. The queue holds every node that ever joined it: the first `takings` of them have been taken, and so expanded.
 pub record Walk : Type 0 where
@@ -22,28 +22,28 @@ pub record Walk : Type 0 where
 -- "Search gives 10 at the first unfit distance its walk works out."
 pub data Going (A : Type 0) : Type 0 where
   on : A → Going A
-  unfitAt : ℕ → Going A
+  unfit_at : ℕ → Going A
 
 unfoldable pub and_then : {A B : Type 0} → Going A → (A → Going B) → Going B
 and_then (on a) f = f a
-and_then (unfitAt v) f = unfitAt v
+and_then (unfit_at v) f = unfit_at v
 
 -- a node with its distance, put in order into the entries found so far
-unfoldable pub worksOut : (ℕ → Distance) → ℕ → List Neighbor → Distance → Going (List Neighbor)
-worksOut apart v found (Fit x) = on (insert (neighbor v x) found)
-worksOut apart v found Unfit = unfitAt v
+unfoldable pub works_out : (ℕ → Distance) → ℕ → List Neighbor → Distance → Going (List Neighbor)
+works_out apart v found (Fit x) = on (insert (neighbor v x) found)
+works_out apart v found Unfit = unfit_at v
 
 -- "Work out the roots' distances to the query in the given order; sort."
-unfoldable pub rootsFound : (ℕ → Distance) → List ℕ → List Neighbor → Going (List Neighbor)
-rootsFound apart [] found = on found
-rootsFound apart (v ∷ vs) found = and_then (worksOut apart v found (apart v)) (rootsFound apart vs)
+unfoldable pub roots_found : (ℕ → Distance) → List ℕ → List Neighbor → Going (List Neighbor)
+roots_found apart [] found = on found
+roots_found apart (v ∷ vs) found = and_then (works_out apart v found (apart v)) (roots_found apart vs)
 
 -- "Mark .. as seen"
 unfoldable pub mark : ℕ → List ℕ → List ℕ
 mark v seen = set seen v 1
 
-unfoldable pub isSeen : ℕ → List ℕ → Bool
-isSeen v seen = eqb (get_or seen v 0) 1
+unfoldable pub is_seen : ℕ → List ℕ → Bool
+is_seen v seen = eqb (get_or seen v 0) 1
 
 -- "Mark all as seen; the first k (or all, if fewer) enter the best set and a first-in first-out queue."
 unfoldable pub started : ℕ → ℕ → List ℕ → List Neighbor → Walk
@@ -51,7 +51,7 @@ started n k roots sorted =
     record {
       seen = through mark roots (replicate n 0);
       best = take k sorted;
-      queue = nodesOf (take k sorted);
+      queue = nodes_of (take k sorted);
       takings = 0;
       worked = length roots;
     }
@@ -65,8 +65,8 @@ pub record Found : Type 0 where
 -- "work out the distance of each unseen member of its row in row order, marking it seen"
 unfoldable pub visit : (ℕ → Distance) → ℕ → Found → Going Found
 visit apart v f =
-    cond (isSeen v f.seen) (on f)
-    (and_then (worksOut apart v f.entries (apart v))
+    cond (is_seen v f.seen) (on f)
+    (and_then (works_out apart v f.entries (apart v))
     (λ (es : List Neighbor). on (record { seen = mark v f.seen; entries = es; worked = suc f.worked })))
 
 unfoldable pub visits : (ℕ → Distance) → List ℕ → Found → Going Found
@@ -87,25 +87,25 @@ unfoldable pub joins : Neighbor → Taken → Taken
 joins e t = record { best = insert e (take (length t.best - 1) t.best); queue = t.queue ++ (node_of e ∷ []) }
 
 -- "strictly greater than the farthest best"
-abbrev pub tooFar : Neighbor → List Neighbor → Bool
-tooFar e best = lt (farthest best) e.distance
+abbrev pub too_far : Neighbor → List Neighbor → Bool
+too_far e best = lt (farthest best) e.distance
 
 -- "Take these in order: the first whose distance is strictly greater than the farthest best ends this row; otherwise it .. joins"
-unfoldable pub takeThese : List Neighbor → Taken → Taken
-takeThese [] t = t
-takeThese (e ∷ es) t = cond (tooFar e t.best) t (takeThese es (joins e t))
+unfoldable pub take_these : List Neighbor → Taken → Taken
+take_these [] t = t
+take_these (e ∷ es) t = cond (too_far e t.best) t (take_these es (joins e t))
 
 -- the walk when the members of a row have been found
-unfoldable pub rowEnded : Walk → Found → Walk
-rowEnded s f =
-    let t = takeThese f.entries (record { best = s.best; queue = s.queue }) in
+unfoldable pub row_ended : Walk → Found → Walk
+row_ended s f =
+    let t = take_these f.entries (record { best = s.best; queue = s.queue }) in
     record { seen = f.seen; best = t.best; queue = t.queue; takings = suc s.takings; worked = f.worked }
 
 -- "Take a node from the queue"
 unfoldable pub expand : (ℕ → Distance) → (ℕ → List ℕ) → Walk → Going Walk
 expand apart rows s =
     and_then (visits apart (rows (get_or s.queue s.takings 0)) (record { seen = s.seen; entries = []; worked = s.worked }))
-    (λ (f : Found). on (rowEnded s f))
+    (λ (f : Found). on (row_ended s f))
 
 -- until the queue is empty, or as many as the limit have been taken
 unfoldable pub walk : (ℕ → Distance) → (ℕ → List ℕ) → ℕ → Walk → Going Walk
@@ -113,5 +113,5 @@ walk apart rows zero s = on s
 walk apart rows (suc limit) s = cond (ltb s.takings (length s.queue)) (and_then (expand apart rows s) (walk apart rows limit)) (on s)
 
 -- the whole search; no node joins the queue twice, so a limit of n is no limit
-unfoldable pub searchOf : (ℕ → Distance) → (ℕ → List ℕ) → ℕ → ℕ → List ℕ → Going Walk
-searchOf apart rows n k roots = and_then (rootsFound apart roots []) (λ (sorted : List Neighbor). walk apart rows n (started n k roots sorted))
+unfoldable pub search_of : (ℕ → Distance) → (ℕ → List ℕ) → ℕ → ℕ → List ℕ → Going Walk
+search_of apart rows n k roots = and_then (roots_found apart roots []) (λ (sorted : List Neighbor). walk apart rows n (started n k roots sorted))

@@ -3,26 +3,26 @@ use Rattle.std.specs.Prelude.{List, ℕ, min, length, replicate, Float}
 use Rattle.rules.specs.declared.SearchAnswer.{SearchAnswer}
 use Rattle.rules.specs.declared.SearchAnswer.TheVariants.{Found, Refused}
 use Rattle.rules.specs.Loops.{over}
-use Rattle.rules.specs.Distance.{queryApart, zero32}
-use Rattle.rules.specs.Lists.{nodesOf, bits_of}
-use Rattle.rules.specs.Refusals.{Code, code, code_of, noRefusal, Row, Decision, passed, refused, decide}
-use Rattle.rules.specs.Calls.{scratch, searchRows}
-use Rattle.rules.specs.Rows.{graphRow}
-use Rattle.rules.specs.Search.{Walk, Going, on, unfitAt, searchOf}
+use Rattle.rules.specs.Distance.{query_apart, zero32}
+use Rattle.rules.specs.Lists.{nodes_of, bits_of}
+use Rattle.rules.specs.Refusals.{Code, code, code_of, no_refusal, Row, Decision, passed, refused, decide}
+use Rattle.rules.specs.Calls.{scratch, search_rows}
+use Rattle.rules.specs.Rows.{graph_row}
+use Rattle.rules.specs.Search.{Walk, Going, on, unfit_at, search_of}
 
 pub record SearchLent : Type 0 where
   pub dimension : ℕ
   pub n : ℕ
   pub lanes : List Float
   pub graph : List ℕ
-  pub index-size : ℕ
+  pub index_size : ℕ
   pub roots : List ℕ
   pub query : List Float
   pub k : ℕ
-  pub result-nodes : List ℕ
-  pub result-bits : List ℕ
-  pub scratch-u : List ℕ
-  pub scratch-f : List Float
+  pub result_nodes : List ℕ
+  pub result_bits : List ℕ
+  pub scratch_u : List ℕ
+  pub scratch_f : List Float
 
 -- "Answer: .. m; and the number of nodes taken from the queue." "A refusal has counts 0"
 pub record SearchSaid : Type 0 where
@@ -30,63 +30,63 @@ pub record SearchSaid : Type 0 where
   pub m : ℕ
   pub takings : ℕ
 
-unfoldable pub searchSaid : SearchAnswer → SearchSaid
-searchSaid (Found m takings) = record { code = noRefusal; m = m; takings = takings }
-searchSaid (Refused r) = record { code = code_of r; m = 0; takings = 0 }
+unfoldable pub search_said : SearchAnswer → SearchSaid
+search_said (Found m takings) = record { code = no_refusal; m = m; takings = takings }
+search_said (Refused r) = record { code = code_of r; m = 0; takings = 0 }
 
 pub record SearchOutcome : Type 0 where
   pub said : SearchSaid
-  pub result-nodes : List ℕ
-  pub result-bits : List ℕ
-  pub scratch-u : List ℕ
-  pub scratch-f : List Float
+  pub result_nodes : List ℕ
+  pub result_bits : List ℕ
+  pub scratch_u : List ℕ
+  pub scratch_f : List Float
 
-unfoldable pub searchTable : SearchLent → List Row
-searchTable l =
-    searchRows l.dimension l.n (length l.lanes) (length l.graph) l.index-size l.roots (length l.query) l.k
-    (length l.result-nodes) (length l.result-bits) (scratch (length l.scratch-u) (length l.scratch-f))
+unfoldable pub search_table : SearchLent → List Row
+search_table l =
+    search_rows l.dimension l.n (length l.lanes) (length l.graph) l.index_size l.roots (length l.query) l.k
+    (length l.result_nodes) (length l.result_bits) (scratch (length l.scratch_u) (length l.scratch_f))
 
 -- "scratch is all zero after search's 10 and after success"
-unfoldable pub searchZeroed : SearchLent → SearchSaid → List ℕ → List ℕ → SearchOutcome
-searchZeroed l said nodes bits =
+unfoldable pub search_zeroed : SearchLent → SearchSaid → List ℕ → List ℕ → SearchOutcome
+search_zeroed l said nodes bits =
     record {
       said = said;
-      result-nodes = nodes;
-      result-bits = bits;
-      scratch-u = replicate (length l.scratch-u) 0;
-      scratch-f = replicate (length l.scratch-f) zero32;
+      result_nodes = nodes;
+      result_bits = bits;
+      scratch_u = replicate (length l.scratch_u) 0;
+      scratch_f = replicate (length l.scratch_f) zero32;
     }
 
 -- "the best set, nearest first, in the first m = min(k, root count) places; further places unchanged"
-unfoldable pub searchEnds : SearchLent → Going Walk → SearchOutcome
-searchEnds l (on s) =
+unfoldable pub search_ends : SearchLent → Going Walk → SearchOutcome
+search_ends l (on s) =
     let m = min l.k (length l.roots) in
-    searchZeroed l (record { code = noRefusal; m = m; takings = s.takings })
-    (over m (nodesOf s.best) l.result-nodes) (over m (bits_of s.best) l.result-bits)
-searchEnds l (unfitAt v) =
-    searchZeroed l (record { code = code 10 v l.n; m = 0; takings = 0 }) l.result-nodes l.result-bits
+    search_zeroed l (record { code = no_refusal; m = m; takings = s.takings })
+    (over m (nodes_of s.best) l.result_nodes) (over m (bits_of s.best) l.result_bits)
+search_ends l (unfit_at v) =
+    search_zeroed l (record { code = code 10 v l.n; m = 0; takings = 0 }) l.result_nodes l.result_bits
 
-unfoldable pub searchWork : SearchLent → SearchOutcome
-searchWork l =
-    searchEnds l
-    (searchOf (queryApart l.lanes l.dimension l.query) (graphRow l.n l.index-size l.graph) l.n l.k l.roots)
+unfoldable pub search_work : SearchLent → SearchOutcome
+search_work l =
+    search_ends l
+    (search_of (query_apart l.lanes l.dimension l.query) (graph_row l.n l.index_size l.graph) l.n l.k l.roots)
 
 -- "A refusal has counts 0 and changes no lent byte"
-unfoldable pub searchObeys : SearchLent → Decision → SearchOutcome
-searchObeys l passed = searchWork l
-searchObeys l (refused c) =
+unfoldable pub search_obeys : SearchLent → Decision → SearchOutcome
+search_obeys l passed = search_work l
+search_obeys l (refused c) =
     record {
       said = record { code = c; m = 0; takings = 0 };
-      result-nodes = l.result-nodes;
-      result-bits = l.result-bits;
-      scratch-u = l.scratch-u;
-      scratch-f = l.scratch-f;
+      result_nodes = l.result_nodes;
+      result_bits = l.result_bits;
+      scratch_u = l.scratch_u;
+      scratch_f = l.scratch_f;
     }
 
-unfoldable pub searchRule : SearchLent → SearchOutcome
-searchRule l = searchObeys l (decide (searchTable l))
+unfoldable pub search_rule : SearchLent → SearchOutcome
+search_rule l = search_obeys l (decide (search_table l))
 
 -- an answer with what was left, as an outcome
-abbrev pub searchLeft : SearchAnswer → List ℕ → List ℕ → List ℕ → List Float → SearchOutcome
-searchLeft a nodes bits su sf =
-    record { said = searchSaid a; result-nodes = nodes; result-bits = bits; scratch-u = su; scratch-f = sf }
+abbrev pub search_left : SearchAnswer → List ℕ → List ℕ → List ℕ → List Float → SearchOutcome
+search_left a nodes bits su sf =
+    record { said = search_said a; result_nodes = nodes; result_bits = bits; scratch_u = su; scratch_f = sf }

@@ -3,11 +3,11 @@ ghost use Rattle.std.specs.Prelude.{◌≡◌, not, [], ◌∷◌, ℕ, ◌+◌,
 ghost use Rattle.std.specs.Float.{nan};
 ghost use Rattle.std.specs.Float.Ieee.{is_nan};
 ghost use Rattle.rules.specs.Loops.{any_of, over};
-ghost use Rattle.rules.specs.Lists.{nodesOf, bits_of};
-ghost use Rattle.rules.specs.Refusals.{decide, decisionOf, holds, notExactly, lessThan};
-ghost use Rattle.rules.specs.Calls.{scratch, searchScratch, searchRows};
+ghost use Rattle.rules.specs.Lists.{nodes_of, bits_of};
+ghost use Rattle.rules.specs.Refusals.{decide, decision_of, holds, not_exactly, less_than};
+ghost use Rattle.rules.specs.Calls.{scratch, search_scratch, search_rows};
 ghost use Rattle.buffers.specs.Area.{area};
-ghost use Rattle.expand.specs.Areas.{Room, bestAt, bestIn};
+ghost use Rattle.expand.specs.Areas.{Room, best_at, best_in};
 ghost use Rattle.search.specs.Search.{lent, Ready, Worked, Searched};
 
 use expand::Counted;
@@ -25,7 +25,7 @@ fn wrong_buffers(
     floats: usize,
 ) -> bool
     requires { (n ≤ 4096) × (index_size ≤ 64) }
-    ensures { result ≡ any_of holds (notExactly (n * index_size) graph ∷ lessThan k results ∷ lessThan k bits ∷ lessThan (searchScratch n) words ∷ lessThan (searchScratch n) floats ∷ []) }
+    ensures { result ≡ any_of holds (not_exactly (n * index_size) graph ∷ less_than k results ∷ less_than k bits ∷ less_than (search_scratch n) words ∷ less_than (search_scratch n) floats ∷ []) }
 {
     if graph != n * index_size {
         return true;
@@ -58,7 +58,7 @@ fn judge(
     words: usize,
     floats: usize,
 ) -> Answer
-    ensures { decisionOf result ≡ decide (searchRows dimension n (length lanes.now) graph index_size roots.now (length query.now) k results bits (scratch words floats)) }
+    ensures { decision_of result ≡ decide (search_rows dimension n (length lanes.now) graph index_size roots.now (length query.now) k results bits (scratch words floats)) }
 {
     let g = table::game(dimension, 4096, n, lanes.len());
     let Answer::Done = g else {
@@ -95,9 +95,9 @@ fn give(
 )
     requires room { Room n words.now floats.now }
     requires m_bound { (m ≤ 64) × (m ≤ length result_nodes.old) × (m ≤ length result_bits.old) }
-    requires by_index { (i : ℕ) → i < m → T (not (is_nan (get_or (area (bestAt n) 64 floats.now) i nan))) }
-    ensures result_nodes_after { result_nodes.new ≡ over m (nodesOf (bestIn n words.now floats.now m)) result_nodes.old }
-    ensures result_bits_after { result_bits.new ≡ over m (bits_of (bestIn n words.now floats.now m)) result_bits.old }
+    requires by_index { (i : ℕ) → i < m → T (not (is_nan (get_or (area (best_at n) 64 floats.now) i nan))) }
+    ensures result_nodes_after { result_nodes.new ≡ over m (nodes_of (best_in n words.now floats.now m)) result_nodes.old }
+    ensures result_bits_after { result_bits.new ≡ over m (bits_of (best_in n words.now floats.now m)) result_bits.old }
 {
     let from = n + n;
     let to = from + 64;

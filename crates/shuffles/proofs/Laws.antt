@@ -9,38 +9,38 @@ use borrow.Author.Tests.{lt-ltb, le-ltb}
 use lib.Dec.{ltb}
 use lib.ListN.{length, get_or, set, length-set}
 use lib.Seq.{take-length}
-use Rattle.rules.specs.Descent.{drawn, swap, shuffleFrom, shuffle, drawnAfter, keptNew, keptBack}
+use Rattle.rules.specs.Descent.{drawn, swap, shuffle_from, shuffle, drawn_after, kept_new, kept_back}
 use Rattle.shuffles.specs.Kept.{KeptNew, KeptBack}
 
 pub length-swap : (p q : ℕ) (xs : List ℕ) → length (swap p q xs) ≡ length xs
 unfolding swap
 length-swap p q xs = simp length-set
 
-pub length-shuffleFrom : (draws : List ℕ) (at p : ℕ) (xs : List ℕ) → length (shuffleFrom draws at p xs) ≡ length xs
-unfolding shuffleFrom
-length-shuffleFrom draws at zero xs = refl
-length-shuffleFrom draws at (suc p) xs =
-    length-shuffleFrom draws (suc at) p (swap (suc p) (drawn draws (suc (suc p)) at) xs) ∙ length-swap (suc p) (drawn draws (suc (suc p)) at) xs
+pub length-shuffle_from : (draws : List ℕ) (at p : ℕ) (xs : List ℕ) → length (shuffle_from draws at p xs) ≡ length xs
+unfolding shuffle_from
+length-shuffle_from draws at zero xs = refl
+length-shuffle_from draws at (suc p) xs =
+    length-shuffle_from draws (suc at) p (swap (suc p) (drawn draws (suc (suc p)) at) xs) ∙ length-swap (suc p) (drawn draws (suc (suc p)) at) xs
 
 pub length-shuffle : (draws : List ℕ) (at : ℕ) (xs : List ℕ) → length (shuffle draws at xs) ≡ length xs
 unfolding shuffle
-length-shuffle draws at xs = length-shuffleFrom draws at (length xs - 1) xs
+length-shuffle draws at xs = length-shuffle_from draws at (length xs - 1) xs
 
 -- the places below count are still to be shuffled, with the draws from next on
 pub record Shuffling (draws : List ℕ) (at : ℕ) (xs₀ xs : List ℕ) (next count : ℕ) : Type 0 where
-  pub left : shuffleFrom draws next (count - 1) xs ≡ shuffle draws at xs₀
+  pub left : shuffle_from draws next (count - 1) xs ≡ shuffle draws at xs₀
   pub long : length xs ≡ length xs₀
   pub within : count ≤ length xs₀
   pub room : next + (count - 1) ≤ length draws
 
-pub shuffling-none : (draws : List ℕ) (at : ℕ) (xs : List ℕ) → at + (length xs - 1) ≤ length draws → Shuffling draws at xs xs at (length xs)
+pub shuffling_none : (draws : List ℕ) (at : ℕ) (xs : List ℕ) → at + (length xs - 1) ≤ length draws → Shuffling draws at xs xs at (length xs)
 unfolding shuffle
-shuffling-none draws at xs h = record { left = refl; long = refl; within = omega arith; room = h }
+shuffling_none draws at xs h = record { left = refl; long = refl; within = omega arith; room = h }
 
-pub shuffling-turn : {draws : List ℕ} {at : ℕ} {xs₀ xs : List ℕ} {next count q : ℕ} → Shuffling draws at xs₀ xs next count → 1 < count → q ≡ drawn draws count next
+pub shuffling_turn : {draws : List ℕ} {at : ℕ} {xs₀ xs : List ℕ} {next count q : ℕ} → Shuffling draws at xs₀ xs next count → 1 < count → q ≡ drawn draws count next
     → Shuffling draws at xs₀ (set (set xs (count - 1) (get_or xs q 0)) q (get_or xs (count - 1) 0)) (next + 1) (count - 1)
-unfolding shuffleFrom swap
-shuffling-turn {draws} {at} {xs₀} {xs} {next} {count} {q} inv h drew = go (count - 2) (omega arith)
+unfolding shuffle_from swap
+shuffling_turn {draws} {at} {xs₀} {xs} {next} {count} {q} inv h drew = go (count - 2) (omega arith)
   where
     go : (p : ℕ) → count ≡ suc (suc p) → Shuffling draws at xs₀ (set (set xs (count - 1) (get_or xs q 0)) q (get_or xs (count - 1) 0)) (next + 1) (count - 1)
     go p e =
@@ -48,7 +48,7 @@ shuffling-turn {draws} {at} {xs₀} {xs} {next} {count} {q} inv h drew = go (cou
         let two : count - 1 - 1 ≡ p = omega arith in
         let inside = inv.within in
         let room = inv.room in
-        let whole : shuffleFrom draws next (suc p) xs ≡ shuffle draws at xs₀ = rw one at inv.left in
+        let whole : shuffle_from draws next (suc p) xs ≡ shuffle draws at xs₀ = rw one at inv.left in
         record {
           left = rw (two, one, drew, e, add-one) whole;
           long = length-swap (count - 1) q xs ∙ inv.long;
@@ -56,50 +56,50 @@ shuffling-turn {draws} {at} {xs₀} {xs} {next} {count} {q} inv h drew = go (cou
           room = omega arith;
         }
 
-pub shuffling-end : {draws : List ℕ} {at : ℕ} {xs₀ xs : List ℕ} {next count : ℕ} → Shuffling draws at xs₀ xs next count → count ≤ 1 → xs ≡ shuffle draws at xs₀
-unfolding shuffleFrom
-shuffling-end {draws} {at} {xs₀} {xs} {next} {count} inv h =
+pub shuffling_end : {draws : List ℕ} {at : ℕ} {xs₀ xs : List ℕ} {next count : ℕ} → Shuffling draws at xs₀ xs next count → count ≤ 1 → xs ≡ shuffle draws at xs₀
+unfolding shuffle_from
+shuffling_end {draws} {at} {xs₀} {xs} {next} {count} inv h =
     let e : count - 1 ≡ 0 = omega arith in
-    sym (ap (λ (p : ℕ). shuffleFrom draws next p xs) e) ∙ inv.left
+    sym (ap (λ (p : ℕ). shuffle_from draws next p xs) e) ∙ inv.left
 
 -- ---- what is kept
 
 module _ (draws : List ℕ) (s at : ℕ) (xs : List ℕ) where
-  pub new-cut : {ys : List ℕ} → s < length xs → ys ≡ shuffle draws at xs → KeptNew draws s at xs ys s
-  unfolding keptNew
-  new-cut {ys} h e = record { list = rw (e, lt-ltb s (length xs) h); long = ap length e ∙ length-shuffle draws at xs; from = omega arith }
+  pub new_cut : {ys : List ℕ} → s < length xs → ys ≡ shuffle draws at xs → KeptNew draws s at xs ys s
+  unfolding kept_new
+  new_cut {ys} h e = record { list = rw (e, lt-ltb s (length xs) h); long = ap length e ∙ length-shuffle draws at xs; from = omega arith }
 
   pub new-all : length xs ≤ s → KeptNew draws s at xs xs 0
-  unfolding keptNew
+  unfolding kept_new
   new-all h = record { list = rw (le-ltb s (length xs) h); long = refl; from = omega arith }
 
   pub back_cut : {ys : List ℕ} → s < length xs → ys ≡ shuffle draws at xs → KeptBack draws s at xs ys s
-  unfolding keptBack
+  unfolding kept_back
   back_cut {ys} h e =
       record { list = rw (e, lt-ltb s (length xs) h); long = ap length e ∙ length-shuffle draws at xs; to = omega arith; few = omega arith }
 
   pub back-all : length xs ≤ s → KeptBack draws s at xs xs (length xs)
-  unfolding keptBack
+  unfolding kept_back
   back-all h = record { list = rw (le-ltb s (length xs) h) (take-length xs); long = refl; to = omega arith; few = h }
 
 module _ (s at : ℕ) (xs : List ℕ) where
-  pub after-cut : s < length xs → at + (length xs - 1) ≡ drawnAfter s at xs
-  unfolding drawnAfter
-  after-cut h = rw (lt-ltb s (length xs) h)
+  pub after_cut : s < length xs → at + (length xs - 1) ≡ drawn_after s at xs
+  unfolding drawn_after
+  after_cut h = rw (lt-ltb s (length xs) h)
 
-  pub after-all : length xs ≤ s → at ≡ drawnAfter s at xs
-  unfolding drawnAfter
+  pub after-all : length xs ≤ s → at ≡ drawn_after s at xs
+  unfolding drawn_after
   after-all h = rw (le-ltb s (length xs) h)
 
 -- ---- the draws that are spent
 
 -- go by the length of a list alone
-pub drawn-same : (s at : ℕ) (xs ys : List ℕ) → length xs ≡ length ys → drawnAfter s at xs ≡ drawnAfter s at ys
-unfolding drawnAfter
+pub drawn-same : (s at : ℕ) (xs ys : List ℕ) → length xs ≡ length ys → drawn_after s at xs ≡ drawn_after s at ys
+unfolding drawn_after
 drawn-same s at xs ys e = rw e
 
-pub drawn-few : (s at : ℕ) (xs : List ℕ) → drawnAfter s at xs ≤ at + length xs
-unfolding drawnAfter
+pub drawn-few : (s at : ℕ) (xs : List ℕ) → drawn_after s at xs ≤ at + length xs
+unfolding drawn_after
 drawn-few s at xs = go (ltb s (length xs))
   where
     go : (b : Bool) → cond b (at + (length xs - 1)) at ≤ at + length xs

@@ -1,6 +1,6 @@
 // Shuffles of an iteration: a whole slice shuffled by draws, and what is kept of a list that is too long.
 ghost use Rattle.std.specs.Prelude.{◌≡◌, ◌+◌, ◌-◌, ◌≤◌, ◌<◌, length};
-ghost use Rattle.rules.specs.Descent.{drawn, shuffle, drawnAfter};
+ghost use Rattle.rules.specs.Descent.{drawn, shuffle, drawn_after};
 ghost use Rattle.shuffles.specs.Kept.{KeptNew, KeptBack};
 
 /// The draw at `at`, modulo `n`.
@@ -65,7 +65,7 @@ pub fn keep_back(xs: &mut [u32], s: usize, draws: &[u32], at: usize) -> usize
 /// Where the next draw is, after a list that is shuffled if longer than `s`.
 pub fn drawn_after(xs: &[u32], s: usize, at: usize) -> usize
     requires { at + length xs.now ≤ 4294967296 }
-    ensures { result ≡ drawnAfter s at xs.now }
+    ensures { result ≡ drawn_after s at xs.now }
 {
     let len = xs.len();
     if s < len {

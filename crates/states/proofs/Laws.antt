@@ -10,7 +10,7 @@ use lib.ListN.{length, drop, get_or, drop_of_length-le}
 use lib.Seq.{drop-cons}
 use lib.Ieee.{Float, nan, inf, fin, binary32, is_nan, ne, to_bits}
 use lib.Ieee.Compare.{differs_from_itself}
-use Rattle.states.specs.Same.{alike, alikeTo, sameBits}
+use Rattle.states.specs.Same.{alike, alike_to, same_bits}
 
 is-nan : (x : Float) → ne x x ≡ true → is_nan x ≡ true
 unfolding is_nan
@@ -30,17 +30,17 @@ itself x = go (ne x x) refl
     go false h = h ∙ sym (is-number x h)
 
 module _ (x y : Float) where
-  pub bits-nan : ne x x ≡ true → ne y y ≡ sameBits x y
-  unfolding sameBits
+  pub bits-nan : ne x x ≡ true → ne y y ≡ same_bits x y
+  unfolding same_bits
   bits-nan h = rw (is-nan x h) (itself y)
 
-  pub bits-one : ne x x ≡ false → ne y y ≡ true → false ≡ sameBits x y
-  unfolding sameBits
+  pub bits-one : ne x x ≡ false → ne y y ≡ true → false ≡ same_bits x y
+  unfolding same_bits
   bits-one h k = rw (is-number x h, is-nan y k)
 
-  pub bits-both : ne x x ≡ false → ne y y ≡ false → eqb (to_bits binary32 x) (to_bits binary32 y) ≡ sameBits x y
-  unfolding sameBits
-  bits-both h k = rw (is-number x h, is-number y k)
+  pub bits_both : ne x x ≡ false → ne y y ≡ false → eqb (to_bits binary32 x) (to_bits binary32 y) ≡ same_bits x y
+  unfolding same_bits
+  bits_both h k = rw (is-number x h, is-number y k)
 
 either : (t : Bool) → cond t false false ≡ false
 either true = refl
@@ -55,8 +55,8 @@ module _ {A : Type 0} (same : A → A → Bool) where
   alike-lengths (x ∷ xs) (y ∷ ys) h =
       rw (← alike-lengths xs ys (λ e. h (ap suc e))) (sym (either (same x y)))
 
-  pub alike-whole : (xs ys : List A) → length xs ≡ length ys → alikeTo same (length xs) xs ys ≡ alike same xs ys
-  unfolding alike alikeTo
+  pub alike-whole : (xs ys : List A) → length xs ≡ length ys → alike_to same (length xs) xs ys ≡ alike same xs ys
+  unfolding alike alike_to
   alike-whole [] [] h = refl
   alike-whole [] (y ∷ ys) h = absurd (let no : ⊥ = omega (arith, h) in no)
   alike-whole (x ∷ xs) [] h = absurd (let no : ⊥ = omega (arith, h) in no)
@@ -76,34 +76,34 @@ module _ {A : Type 0} (same : A → A → Bool) where
       unfolding alike
       alike-here e = rw (drop-cons xs i d h, drop-cons ys i d k, e)
 
-      pub alike-turn : same (get_or xs i d) (get_or ys i d) ≡ true → alike same (drop (i + 1) xs) (drop (i + 1) ys) ≡ alike same (drop i xs) (drop i ys)
+      pub alike_turn : same (get_or xs i d) (get_or ys i d) ≡ true → alike same (drop (i + 1) xs) (drop (i + 1) ys) ≡ alike same (drop i xs) (drop i ys)
       unfolding alike
-      alike-turn e = rw (drop-cons xs i d h, drop-cons ys i d k, e, add-one)
+      alike_turn e = rw (drop-cons xs i d h, drop-cons ys i d k, e, add-one)
 
     module _ (n : ℕ) where
-      pub to_end : n ≤ i → true ≡ alikeTo same (n - i) (drop i xs) (drop i ys)
-      unfolding alikeTo
+      pub to_end : n ≤ i → true ≡ alike_to same (n - i) (drop i xs) (drop i ys)
+      unfolding alike_to
       to_end h = let none : n - i ≡ 0 = omega arith in rw none
 
       module _ (l : i < n) where
         less : n - i ≡ suc (n - (i + 1))
         less = omega arith
 
-        pub to-left : length xs ≤ i → true ≡ alikeTo same (n - i) (drop i xs) (drop i ys)
-        unfolding alikeTo
+        pub to-left : length xs ≤ i → true ≡ alike_to same (n - i) (drop i xs) (drop i ys)
+        unfolding alike_to
         to-left h = rw (less, drop_of_length-le xs h)
 
-        pub to-right : i < length xs → length ys ≤ i → true ≡ alikeTo same (n - i) (drop i xs) (drop i ys)
-        unfolding alikeTo
-        to-right h k = rw (less, drop-cons xs i d h, drop_of_length-le ys k)
+        pub to_right : i < length xs → length ys ≤ i → true ≡ alike_to same (n - i) (drop i xs) (drop i ys)
+        unfolding alike_to
+        to_right h k = rw (less, drop-cons xs i d h, drop_of_length-le ys k)
 
         module _ (h : i < length xs) (k : i < length ys) where
-          pub to-here : same (get_or xs i d) (get_or ys i d) ≡ false → false ≡ alikeTo same (n - i) (drop i xs) (drop i ys)
-          unfolding alikeTo
+          pub to-here : same (get_or xs i d) (get_or ys i d) ≡ false → false ≡ alike_to same (n - i) (drop i xs) (drop i ys)
+          unfolding alike_to
           to-here e = rw (less, drop-cons xs i d h, drop-cons ys i d k, e)
 
-          pub to-turn :
+          pub to_turn :
               same (get_or xs i d) (get_or ys i d) ≡ true
-              → alikeTo same (n - (i + 1)) (drop (i + 1) xs) (drop (i + 1) ys) ≡ alikeTo same (n - i) (drop i xs) (drop i ys)
-          unfolding alikeTo
-          to-turn e = rw (less, drop-cons xs i d h, drop-cons ys i d k, e, add-one)
+              → alike_to same (n - (i + 1)) (drop (i + 1) xs) (drop (i + 1) ys) ≡ alike_to same (n - i) (drop i xs) (drop i ys)
+          unfolding alike_to
+          to_turn e = rw (less, drop-cons xs i d h, drop-cons ys i d k, e, add-one)

@@ -2,7 +2,7 @@
 use Rattle.std.specs.Prelude.{cond, List, ◌∷◌, ◌++◌, ℕ, zero, suc, ◌+◌, ◌-◌, ◌/◌, eqb, ltb, length, take, drop, Float}
 use Rattle.cases.specs.declared.Cursor.{Cursor}
 use Rattle.cases.specs.declared.Size.{Size}
-use Rattle.cases.specs.Text.{faulted, size_at, areaOf, wordsAt, floatsAt, behind}
+use Rattle.cases.specs.Text.{faulted, size_at, area_of, words_at, floats_at, behind}
 
 -- What places hold after a reading, and the place in the text behind what was read
 pub record Filled : Type 0 where
@@ -27,7 +27,7 @@ state words floats cursor = record { words = words; floats = floats; cursor = cu
 module _ (text : List ℕ) where
   -- "the length, then 64 places": those behind the members stay as they were
   unfoldable pub block : Size → List ℕ → List ℕ
-  block s places = s.value ∷ (wordsAt s.value text s.cursor ++ drop (1 + s.value) places)
+  block s places = s.value ∷ (words_at s.value text s.cursor ++ drop (1 + s.value) places)
 
   -- n context lists, each in 65 places; further places are a fault
   unfoldable pub blocks : ℕ → Cursor → List ℕ → Filled
@@ -38,21 +38,21 @@ module _ (text : List ℕ) where
       after (take 65 written) (blocks n (behind s.value text s.cursor) (drop 65 written))
 
   -- as many as there are places for
-  abbrev pub blocksAt : Cursor → List ℕ → Filled
-  blocksAt c places = blocks (length places / 65) c places
+  abbrev pub blocks_at : Cursor → List ℕ → Filled
+  blocks_at c places = blocks (length places / 65) c places
 
   -- The nodes of the lists, the bits of their distances, and the contexts in the further words
-  unfoldable pub listsAt : ℕ → Cursor → List ℕ → List Float → State
-  listsAt lists c words floats =
+  unfoldable pub lists_at : ℕ → Cursor → List ℕ → List Float → State
+  lists_at lists c words floats =
       let nodes = behind lists text c in
-      let contexts = blocksAt (behind (length floats) text nodes) (drop lists words) in
-      state (wordsAt lists text c ++ contexts.words) (floatsAt (length floats) text nodes) contexts.cursor
+      let contexts = blocks_at (behind (length floats) text nodes) (drop lists words) in
+      state (words_at lists text c ++ contexts.words) (floats_at (length floats) text nodes) contexts.cursor
 
   -- n lists of k, 260 words a node, and the visited pairs in the words that are left; too few words are a fault, and stay.
-  unfoldable pub stateAt : ℕ → ℕ → Cursor → List ℕ → List Float → State
-  stateAt n k c words floats =
-      let marks = areaOf n k + areaOf 260 n in
-      let s = listsAt (areaOf n k) c (take marks words) floats in
+  unfoldable pub state_at : ℕ → ℕ → Cursor → List ℕ → List Float → State
+  state_at n k c words floats =
+      let marks = area_of n k + area_of 260 n in
+      let s = lists_at (area_of n k) c (take marks words) floats in
       let pairs = length words - marks in
       cond (ltb (length words) marks) (state words floats (faulted c 4))
-      (state (s.words ++ wordsAt pairs text s.cursor) s.floats (behind pairs text s.cursor))
+      (state (s.words ++ words_at pairs text s.cursor) s.floats (behind pairs text s.cursor))

@@ -11,12 +11,12 @@ module _ {A : Type 0} (same : A → A → Bool) where
   alike (x ∷ xs) (y ∷ ys) = cond (same x y) (alike xs ys) false
 
   -- the first n places, as far as both lists go
-  unfoldable pub alikeTo : ℕ → List A → List A → Bool
-  alikeTo zero xs ys = true
-  alikeTo (suc n) [] ys = true
-  alikeTo (suc n) (x ∷ xs) [] = true
-  alikeTo (suc n) (x ∷ xs) (y ∷ ys) = cond (same x y) (alikeTo n xs ys) false
+  unfoldable pub alike_to : ℕ → List A → List A → Bool
+  alike_to zero xs ys = true
+  alike_to (suc n) [] ys = true
+  alike_to (suc n) (x ∷ xs) [] = true
+  alike_to (suc n) (x ∷ xs) (y ∷ ys) = cond (same x y) (alike_to n xs ys) false
 
 -- The same bits; a NaN is as any other
-unfoldable pub sameBits : Float → Float → Bool
-sameBits x y = cond (is_nan x) (is_nan y) (cond (is_nan y) false (eqb (to_bits binary32 x) (to_bits binary32 y)))
+unfoldable pub same_bits : Float → Float → Bool
+same_bits x y = cond (is_nan x) (is_nan y) (cond (is_nan y) false (eqb (to_bits binary32 x) (to_bits binary32 y)))

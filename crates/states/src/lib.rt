@@ -1,8 +1,8 @@
 // A list's descent state, read into the places of ours.
 ghost use Rattle.std.specs.Prelude.{◌≡◌, ◌++◌, ◌+◌, ◌≤◌, eqb, length, take, drop};
-ghost use Rattle.cases.specs.Text.{wordsAt, behind};
-ghost use Rattle.states.specs.Read.{filled, state, blocksAt, listsAt, stateAt};
-ghost use Rattle.states.specs.Same.{alike, alikeTo, sameBits};
+ghost use Rattle.cases.specs.Text.{words_at, behind};
+ghost use Rattle.states.specs.Read.{filled, state, blocks_at, lists_at, state_at};
+ghost use Rattle.states.specs.Same.{alike, alike_to, same_bits};
 
 use cases::Cursor;
 
@@ -12,7 +12,7 @@ const BLOCK: usize = 65;
 // Reads `count` members into the places from `from` on; further places stay.
 fn read_members(text: &[u8], c: Cursor, out: &mut [u32], from: usize, count: usize) -> Cursor
     requires { from + count ≤ length out.old }
-    ensures out_after { out.new ≡ take from out.old ++ (wordsAt count text.now c ++ drop (from + count) out.old) }
+    ensures out_after { out.new ≡ take from out.old ++ (words_at count text.now c ++ drop (from + count) out.old) }
     ensures value { result ≡ behind count text.now c }
 {
     let mut i = from;
@@ -30,7 +30,7 @@ fn read_members(text: &[u8], c: Cursor, out: &mut [u32], from: usize, count: usi
 
 /// Reads context lists into places of 65 words each, as many as the slice has; unused places stay.
 pub fn read_blocks(text: &[u8], c: Cursor, out: &mut [u32]) -> Cursor
-    ensures { filled out.new result ≡ blocksAt text.now c out.old }
+    ensures { filled out.new result ≡ blocks_at text.now c out.old }
 {
     let mut at: usize = 0;
     let mut cursor = c;
@@ -49,7 +49,7 @@ pub fn read_blocks(text: &[u8], c: Cursor, out: &mut [u32]) -> Cursor
 // Reads the lists, their nodes to the first `lists` of the words, and the contexts behind them.
 fn read_lists(text: &[u8], c: Cursor, lists: usize, words: &mut [u32], floats: &mut [f32]) -> Cursor
     requires { lists ≤ length words.old }
-    ensures { state words.new floats.new result ≡ listsAt text.now lists c words.old floats.old }
+    ensures { state words.new floats.new result ≡ lists_at text.now lists c words.old floats.old }
 {
     let nodes = cases::read_words(text, c, &mut words[..lists]);
     let bits = cases::read_floats(text, nodes, floats);
@@ -65,7 +65,7 @@ pub fn read_state(
     words: &mut [u32],
     floats: &mut [f32],
 ) -> Cursor
-    ensures { state words.new floats.new result ≡ stateAt text.now n k c words.old floats.old }
+    ensures { state words.new floats.new result ≡ state_at text.now n k c words.old floats.old }
 {
     let lists = cases::area(n, k);
     let marks = lists + cases::area(260, n);
@@ -78,7 +78,7 @@ pub fn read_state(
 
 /// Whether two slices hold the same words in their first `count` places, as far as they go.
 pub fn same_first(a: &[u32], b: &[u32], count: usize) -> bool
-    ensures { result ≡ alikeTo eqb count a.now b.now }
+    ensures { result ≡ alike_to eqb count a.now b.now }
 {
     let mut i: usize = 0;
     while i < count {
@@ -108,7 +108,7 @@ pub fn same_words(a: &[u32], b: &[u32]) -> bool
 
 // Whether two floats have the same bits; a NaN is as any other.
 fn same_bits(a: f32, b: f32) -> bool
-    ensures { result ≡ sameBits a b }
+    ensures { result ≡ same_bits a b }
 {
     if a != a {
         return b != b;
@@ -121,7 +121,7 @@ fn same_bits(a: f32, b: f32) -> bool
 
 /// Whether two slices hold the same floats, bit for bit; a NaN is as any other.
 pub fn same_floats(a: &[f32], b: &[f32]) -> bool
-    ensures { result ≡ alike sameBits a.now b.now }
+    ensures { result ≡ alike same_bits a.now b.now }
 {
     if a.len() != b.len() {
         return false;

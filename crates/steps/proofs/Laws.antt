@@ -16,7 +16,7 @@ use Rattle.rules.specs.Offers.{look, pop, offer}
 use Rattle.neighbor.specs.Holdable.{Holdable}
 use Rattle.neighbor.proofs.Bits.{bits-lt, bits-eq}
 use Rattle.lists.specs.Ascending.{AllHoldable, Ascending}
-use Rattle.lists.proofs.Laws.{length-insert, holdable-at, take_behind}
+use Rattle.lists.proofs.Laws.{length-insert, holdable_at, take_behind}
 
 -- ---- an offer to a list of exactly k
 
@@ -51,7 +51,7 @@ offer-least k e l some long E X s = go (lt (farthest l) e.distance) refl
     go : (b : Bool) → lt (farthest l) e.distance ≡ b → offer k e l ≡ take k (insert e l)
     go true h =
         let last = get_or l (length l - 1) z in
-        let b : before e last ≡ false = farther e last E (holdable-at l (length l - 1) z X (omega arith)) h in
+        let b : before e last ≡ false = farther e last E (holdable_at l (length l - 1) z X (omega arith)) h in
         let c : suc (length l - 1) ≡ k = omega arith in
         let t : take (suc (length l - 1)) (insert e l) ≡ take (suc (length l - 1)) l = take_behind e l (length l - 1) z E X s (omega arith) b in
         offer-left k e l (ap not h) ∙ sym (rw c at t ∙ take_all k l (omega arith))

@@ -12,7 +12,7 @@ use Rattle.rules.specs.Lists.{neighbor, entries}
 use Rattle.rules.specs.Search.{farthest}
 use Rattle.rules.specs.Offers.{look}
 use Rattle.lists.specs.Lists.{PushedCut}
-use Rattle.lists.proofs.Slices.{length-entries, getD-entries}
+use Rattle.lists.proofs.Slices.{length-entries, get_d_entries}
 use Rattle.steps.specs.Steps.{OfferedTo}
 use Rattle.steps.proofs.Laws.{offer-taken, offer-left}
 
@@ -23,7 +23,7 @@ module _ (ns : List ℕ) (ds : List Float) (len : ℕ) (some : 1 ≤ len) (h : l
       let long = length-entries len ns ds h g in
       ap (λ (x : Neighbor). not (lt x.distance e.distance))
       (ap (λ (i : ℕ). get_or (entries len ns ds) (i - 1) (neighbor 0 zero32)) long
-      ∙ getD-entries len (len - 1) ns ds 0 d (neighbor 0 zero32) (omega arith) h g)
+      ∙ get_d_entries len (len - 1) ns ds 0 d (neighbor 0 zero32) (omega arith) h g)
 
   pub offered-taken : {e : Neighbor} {ns' : List ℕ} {ds' : List Float} {r : ℕ} → look e (entries len ns ds) ≡ true → PushedCut ns ds len len e ns' ds' r → OfferedTo ns ds len e ns' ds'
   offered-taken {e} {ns'} {ds'} {r} t made =
@@ -32,18 +32,18 @@ module _ (ns : List ℕ) (ds : List Float) (len : ℕ) (some : 1 ≤ len) (h : l
       let m : PushedCut ns ds len len e ns' ds' len = rw same at made in
       record {
         list = m.list ∙ sym (offer-taken len e (entries len ns ds) (length-entries len ns ds h g) t);
-        nodes-rest = m.nodes-rest;
-        dists-rest = m.dists-rest;
-        nodes-long = m.nodes-long;
-        dists-long = m.dists-long;
+        nodes_rest = m.nodes_rest;
+        dists_rest = m.dists_rest;
+        nodes_long = m.nodes_long;
+        dists_long = m.dists_long;
       }
 
   pub offered-left : {e : Neighbor} → look e (entries len ns ds) ≡ false → OfferedTo ns ds len e ns ds
   offered-left {e} t =
       record {
         list = sym (offer-left len e (entries len ns ds) t);
-        nodes-rest = refl;
-        dists-rest = refl;
-        nodes-long = refl;
-        dists-long = refl;
+        nodes_rest = refl;
+        dists_rest = refl;
+        nodes_long = refl;
+        dists_long = refl;
       }

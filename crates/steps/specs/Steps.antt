@@ -6,7 +6,7 @@ use Rattle.rules.specs.Offers.{offer}
 
 pub record OfferedTo (ns : List ℕ) (ds : List Float) (k : ℕ) (e : Neighbor) (ns' : List ℕ) (ds' : List Float) : Type 0 where
   pub list : entries k ns' ds' ≡ offer k e (entries k ns ds)
-  pub nodes-rest : drop k ns' ≡ drop k ns
-  pub dists-rest : drop k ds' ≡ drop k ds
-  pub nodes-long : length ns' ≡ length ns
-  pub dists-long : length ds' ≡ length ds
+  pub nodes_rest : drop k ns' ≡ drop k ns
+  pub dists_rest : drop k ds' ≡ drop k ds
+  pub nodes_long : length ns' ≡ length ns
+  pub dists_long : length ds' ≡ length ds

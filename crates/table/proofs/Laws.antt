@@ -11,8 +11,8 @@ use lib.ListN.{length, take, drop, get_or}
 use lib.Seq.{length-take-le, get_or-take}
 use Rattle.rules.specs.Loops.{has, any_of}
 use Rattle.rules.specs.Numbers.{outside}
-use Rattle.rules.specs.Refusals.{Row, code, decide, refused, passed, row1, row2, row3, row7, badRoot, firstBadRoot}
-use Rattle.rules.proofs.Loops.{any_here, any-turn, any-end}
+use Rattle.rules.specs.Refusals.{Row, code, decide, refused, passed, row1, row2, row3, row7, bad_root, first_bad_root}
+use Rattle.rules.proofs.Loops.{any_here, any_turn, any_end}
 use Rattle.rules.proofs.Tables.{within}
 
 -- ---- a number among the first of others: at place i
@@ -26,25 +26,25 @@ module _ (v : ℕ) (xs : List ℕ) (len i : ℕ) (fits : len ≤ length xs) wher
       let long = length-take-le len xs fits in
       sym (inv ∙ any_here (eqb v) (take len xs) i 0 (omega arith) (eq-eqb v (get_or (take len xs) i 0) (sym (get_or-take len xs i 0 h ∙ e))))
 
-  pub has-turn : Sought → i < len → (get_or xs i 0 ≡ v → ⊥) → has v (take len xs) ≡ any_of (eqb v) (drop (i + 1) (take len xs))
-  has-turn inv h e =
+  pub has_turn : Sought → i < len → (get_or xs i 0 ≡ v → ⊥) → has v (take len xs) ≡ any_of (eqb v) (drop (i + 1) (take len xs))
+  has_turn inv h e =
       let long = length-take-le len xs fits in
-      inv ∙ sym (any-turn (eqb v) (take len xs) i 0 (omega arith) (ne_eqb v (get_or (take len xs) i 0) (λ q. e (sym (get_or-take len xs i 0 h) ∙ sym q))))
+      inv ∙ sym (any_turn (eqb v) (take len xs) i 0 (omega arith) (ne_eqb v (get_or (take len xs) i 0) (λ q. e (sym (get_or-take len xs i 0 h) ∙ sym q))))
 
   pub has_end : Sought → len ≤ i → false ≡ has v (take len xs)
   has_end inv h =
       let long = length-take-le len xs fits in
-      sym (inv ∙ any-end (eqb v) (take len xs) i (omega arith))
+      sym (inv ∙ any_end (eqb v) (take len xs) i (omega arith))
 
 -- ---- a root that is n or more, or repeats an earlier one
 
-pub bad-high : (n : ℕ) (roots : List ℕ) (i : ℕ) → n ≤ get_or roots i 0 → badRoot n roots i ≡ true
-unfolding badRoot
-bad-high n roots i h = rw (le-leb n (get_or roots i 0) h)
+pub bad_high : (n : ℕ) (roots : List ℕ) (i : ℕ) → n ≤ get_or roots i 0 → bad_root n roots i ≡ true
+unfolding bad_root
+bad_high n roots i h = rw (le-leb n (get_or roots i 0) h)
 
-pub bad-is : (n : ℕ) (roots : List ℕ) (i : ℕ) → get_or roots i 0 < n → badRoot n roots i ≡ has (get_or roots i 0) (take i roots)
-unfolding badRoot
-bad-is n roots i h = rw (lt-leb n (get_or roots i 0) h)
+pub bad_is : (n : ℕ) (roots : List ℕ) (i : ℕ) → get_or roots i 0 < n → bad_root n roots i ≡ has (get_or roots i 0) (take i roots)
+unfolding bad_root
+bad_is n roots i h = rw (lt-leb n (get_or roots i 0) h)
 
 -- ---- products of a game's numbers
 
@@ -60,32 +60,32 @@ pub few-roots : (n : ℕ) (roots : List ℕ) → outside 1 64 (length roots) ≡
 unfolding row7 decide
 few-roots n roots e = rw e
 
-pub bad-root : (n : ℕ) (roots : List ℕ) (at : ℕ) → outside 1 64 (length roots) ≡ false → at ≡ firstBadRoot n roots → at < length roots → decide (row7 n roots ∷ []) ≡ refused (code 7 at 0)
+pub bad_root_lem : (n : ℕ) (roots : List ℕ) (at : ℕ) → outside 1 64 (length roots) ≡ false → at ≡ first_bad_root n roots → at < length roots → decide (row7 n roots ∷ []) ≡ refused (code 7 at 0)
 unfolding row7 decide
-bad-root n roots at e f h = rw (e, ← f, lt-ltb at (length roots) h)
+bad_root_lem n roots at e f h = rw (e, ← f, lt-ltb at (length roots) h)
 
-pub good-roots : (n : ℕ) (roots : List ℕ) (at : ℕ) → outside 1 64 (length roots) ≡ false → at ≡ firstBadRoot n roots → length roots ≤ at → decide (row7 n roots ∷ []) ≡ passed
+pub good_roots : (n : ℕ) (roots : List ℕ) (at : ℕ) → outside 1 64 (length roots) ≡ false → at ≡ first_bad_root n roots → length roots ≤ at → decide (row7 n roots ∷ []) ≡ passed
 unfolding row7 decide
-good-roots n roots at e f h = rw (e, ← f, le-ltb at (length roots) h)
+good_roots n roots at e f h = rw (e, ← f, le-ltb at (length roots) h)
 
 -- ---- rows 1, 2 and 3
 
 module _ (dimension most n lanes : ℕ) where
-  abbrev gameRows : List Row
-  gameRows = row1 dimension ∷ row2 most n ∷ row3 dimension n lanes ∷ []
+  abbrev game_rows : List Row
+  game_rows = row1 dimension ∷ row2 most n ∷ row3 dimension n lanes ∷ []
 
-  pub game-dimension : outside 1 64 dimension ≡ true → decide gameRows ≡ refused (code 1 0 0)
+  pub game-dimension : outside 1 64 dimension ≡ true → decide game_rows ≡ refused (code 1 0 0)
   unfolding decide row1
   game-dimension e = rw e
 
-  pub game-nodes : outside 1 64 dimension ≡ false → outside 2 most n ≡ true → decide gameRows ≡ refused (code 2 0 0)
+  pub game-nodes : outside 1 64 dimension ≡ false → outside 2 most n ≡ true → decide game_rows ≡ refused (code 2 0 0)
   unfolding decide row1 row2
   game-nodes e f = rw (e, f)
 
-  pub game-lanes : outside 1 64 dimension ≡ false → outside 2 most n ≡ false → (lanes ≡ n * dimension → ⊥) → decide gameRows ≡ refused (code 3 0 0)
+  pub game-lanes : outside 1 64 dimension ≡ false → outside 2 most n ≡ false → (lanes ≡ n * dimension → ⊥) → decide game_rows ≡ refused (code 3 0 0)
   unfolding decide row1 row2 row3
   game-lanes e f g = rw (e, f, ne_eqb lanes (n * dimension) g)
 
-  pub game-passed : outside 1 64 dimension ≡ false → outside 2 most n ≡ false → lanes ≡ n * dimension → decide gameRows ≡ passed
+  pub game-passed : outside 1 64 dimension ≡ false → outside 2 most n ≡ false → lanes ≡ n * dimension → decide game_rows ≡ passed
   unfolding decide row1 row2 row3
   game-passed e f g = rw (e, f, eq-eqb lanes (n * dimension) g)

@@ -2,7 +2,7 @@
 ghost use Rattle.std.specs.Prelude.{◌≡◌, [], ◌∷◌, ◌≤◌, ◌+◌, min, length, take};
 ghost use Rattle.rules.specs.Loops.{has};
 ghost use Rattle.rules.specs.Numbers.{outside};
-ghost use Rattle.rules.specs.Refusals.{decide, decisionOf, row1, row2, row3, row7, firstBadRoot};
+ghost use Rattle.rules.specs.Refusals.{decide, decision_of, row1, row2, row3, row7, first_bad_root};
 
 use rules::{Answer, NodeId, Refusal};
 
@@ -26,7 +26,7 @@ pub fn fewer(a: usize, b: usize) -> usize
 /// Rows 1, 2 and 3: the dimension, n up to `most`, and the length of the lanes.
 pub fn game(dimension: usize, most: usize, n: usize, lanes: usize) -> Answer
     requires { most ≤ 4096 }
-    ensures { decisionOf result ≡ decide (row1 dimension ∷ row2 most n ∷ row3 dimension n lanes ∷ []) }
+    ensures { decision_of result ≡ decide (row1 dimension ∷ row2 most n ∷ row3 dimension n lanes ∷ []) }
 {
     if outside(1, 64, dimension) {
         return Answer::Refused(Refusal::Dimension);
@@ -57,7 +57,7 @@ pub fn has(nodes: &[u32], len: usize, v: NodeId) -> bool
 
 /// The first place of a root that is `n` or more or repeats an earlier one; the number of roots where there is none.
 fn first_bad_root(n: usize, roots: &[u32]) -> usize
-    ensures { result ≡ firstBadRoot n roots.now }
+    ensures { result ≡ first_bad_root n roots.now }
 {
     let mut i: usize = 0;
     while i < roots.len() {
@@ -75,7 +75,7 @@ fn first_bad_root(n: usize, roots: &[u32]) -> usize
 
 /// Row 7: the number of roots, and each root.
 pub fn roots(n: usize, roots: &[u32]) -> Answer
-    ensures { decisionOf result ≡ decide (row7 n roots.now ∷ []) }
+    ensures { decision_of result ≡ decide (row7 n roots.now ∷ []) }
 {
     let count = roots.len();
     if outside(1, 64, count) {

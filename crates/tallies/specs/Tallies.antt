@@ -3,7 +3,7 @@ use Rattle.std.specs.Prelude.{ℕ, ◌+◌, ◌%◌, ◌^◌, Bool, cond, List, 
 use Rattle.cases.specs.declared.Cursor.{Cursor}
 use Rattle.cases.specs.Text.{first, faulted}
 use Rattle.pages.specs.Page.{bytes, labelled}
-use Rattle.replays.specs.Compare.{holdsOnly, allZero}
+use Rattle.replays.specs.Compare.{holds_only, all_zero}
 use Rattle.tallies.specs.declared.Outcome.{Outcome}
 use Rattle.tallies.specs.declared.Tally.{Tally}
 
@@ -15,8 +15,8 @@ abbrev pub junk : ℕ
 junk = 0xCDCDCDCD
 
 -- Nothing differs yet
-abbrev pub freshAt : Cursor → Outcome
-freshAt c = record { differs = 0; cursor = c }
+abbrev pub fresh_at : Cursor → Outcome
+fresh_at c = record { differs = 0; cursor = c }
 
 abbrev pub moved_to : Outcome → Cursor → Outcome
 moved_to o c = record { differs = o.differs; cursor = c }
@@ -28,7 +28,7 @@ joined o fine differs =
 
 -- "Scratch .. all zero after success": a place that is not is difference 7
 unfoldable pub scratched : Outcome → List ℕ → List Float → Outcome
-scratched o words floats = joined (joined o (holdsOnly 0 words) 7) (allZero floats) 7
+scratched o words floats = joined (joined o (holds_only 0 words) 7) (all_zero floats) 7
 
 unfoldable pub counted : Tally → Outcome → Tally
 counted t o =
@@ -44,8 +44,8 @@ closed t kind c =
     record { compared = t.compared; differ = t.differ; cursor = cond (kind == 0) c (faulted c 4) }
 
 -- What is said of a case, behind its number
-unfoldable pub differsText : ℕ → List ℕ
-differsText n =
+unfoldable pub differs_text : ℕ → List ℕ
+differs_text n =
     cond (n == 1) (bytes " is refused\n")
     (cond (n == 2) (bytes " differs in a length\n")
     (cond (n == 3) (bytes " differs in node numbers\n")
@@ -55,7 +55,7 @@ differsText n =
     (cond (n == 7) (bytes " leaves scratch that is not zero\n") (bytes " differs in other words\n")))))))
 
 -- What is said of all cases
-unfoldable pub tallyText : List ℕ → Tally → List ℕ
-tallyText label t =
+unfoldable pub tally_text : List ℕ → Tally → List ℕ
+tally_text label t =
     labelled label t.compared ++ labelled (bytes "\nthat differ: ") t.differ ++ labelled (bytes "\nnumbers: ") t.cursor.count
     ++ labelled (bytes ", sum: ") t.cursor.sum ++ labelled (bytes ", fault: ") t.cursor.fault ++ bytes "\n"

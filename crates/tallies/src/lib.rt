@@ -2,7 +2,7 @@
 ghost use Rattle.std.specs.Prelude.{◌≡◌};
 ghost use Rattle.io.specs.Counts.{IsPrefixLen};
 ghost use Rattle.pages.specs.Page.{Puts};
-ghost use Rattle.tallies.specs.Tallies.{no_case, freshAt, moved_to, joined, scratched, counted, closed, differsText, tallyText};
+ghost use Rattle.tallies.specs.Tallies.{no_case, fresh_at, moved_to, joined, scratched, counted, closed, differs_text, tally_text};
 
 use cases::Cursor;
 use libc::STDOUT_FILENO;
@@ -57,7 +57,7 @@ pub fn none() -> Tally
 
 /// Nothing differs yet.
 pub fn fresh(c: Cursor) -> Outcome
-    ensures { result ≡ freshAt c }
+    ensures { result ≡ fresh_at c }
 {
     Outcome {
         differs: NOTHING,
@@ -101,7 +101,7 @@ pub fn with_scratch(o: Outcome, words: &[u32], floats: &[f32]) -> Outcome
 }
 
 fn put_differs(page: &mut [u8], at: usize, differs: u32) -> usize
-    ensures { Puts at (differsText differs) page.old result page.new }
+    ensures { Puts at (differs_text differs) page.old result page.new }
 {
     if differs == REFUSED {
         return pages::put(page, at, b" is refused\n");
@@ -154,7 +154,7 @@ pub fn with_case(t: Tally, o: Outcome) -> Tally
 
 /// Puts the tally on a page: what was compared, how many differ, and the numbers read with their sum.
 pub fn put_tally(page: &mut [u8], at: usize, label: &[u8], t: Tally) -> usize
-    ensures { Puts at (tallyText label.now t) page.old result page.new }
+    ensures { Puts at (tally_text label.now t) page.old result page.new }
 {
     let compared = pages::put_word(page, at, label, t.compared);
     let differ = pages::put_word(page, compared, b"\nthat differ: ", t.differ);

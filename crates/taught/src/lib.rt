@@ -1,7 +1,7 @@
 // Step 1 of build for every node: the exact lists one behind the other in one slice.
 ghost use Rattle.std.specs.Prelude.{◌≡◌, ◌+◌, ◌*◌, ◌≤◌, ◌<◌, min, length};
 ghost use Rattle.rules.specs.Distance.{between};
-ghost use Rattle.taught.specs.Taught.{Taught, eightIn, HoldsEight, Ranged};
+ghost use Rattle.taught.specs.Taught.{Taught, eight_in, HoldsEight, Ranged};
 
 use rules::NodeId;
 
@@ -43,7 +43,7 @@ fn one_by_one(
 fn lists_of(rows: &[f32], n: usize, init_k: usize, base: usize, end: usize, lists: &mut [u32])
     requires holds_eight { HoldsEight n base rows.now × (n ≤ 4096) × (n * 8 ≤ length rows.now) × (base ≤ end) × (end ≤ n) × (end ≤ base + 8) }
     requires le_init_k { (1 ≤ init_k) × (init_k ≤ 64) × (n * init_k ≤ length lists.old) }
-    ensures { Ranged (eightIn base rows.now) n init_k base end lists.old lists.new }
+    ensures { Ranged (eight_in base rows.now) n init_k base end lists.old lists.new }
 {
     let mut nodes = [0u32; 64];
     let mut dists = [0.0f32; 64];

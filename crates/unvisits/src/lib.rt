@@ -4,7 +4,7 @@ ghost use Rattle.rules.specs.Loops.{through};
 ghost use Rattle.rules.specs.Descent.{unvisit};
 ghost use Rattle.visits.specs.Marks.{marks, Marked};
 ghost use Rattle.passes.specs.Passes.{Below};
-ghost use Rattle.unvisits.specs.Unvisits.{unvisitEach, News};
+ghost use Rattle.unvisits.specs.Unvisits.{unvisit_each, News};
 
 use rules::NodeId;
 
@@ -24,7 +24,7 @@ fn unvisit_row(words: &mut [u32], base: usize, n: usize, i: NodeId, vs: &[u32])
 /// Takes the marks of each node's kept new pairs away, that way round only; the new lists stand in contexts of 260 words.
 pub fn unvisit_all(words: &mut [u32], base: usize, n: usize, contexts: &[u32])
     requires { (n ≤ 1024) × (length words.old ≡ base + marks n) × News n contexts.now }
-    ensures { Marked base n (unvisitEach n contexts.now n) words.old words.new }
+    ensures { Marked base n (unvisit_each n contexts.now n) words.old words.new }
 {
     let mut i: usize = 0;
     while i < n {

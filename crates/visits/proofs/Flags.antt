@@ -11,11 +11,11 @@ use lib.ListN.{length, take, drop, get_or, set, get_or-eq_default, length-take}
 use lib.Pow.{pow_mono}
 use lib.Seq.{get_or-set_same, get_or-set_other, get_or-take, get_or-drop}
 use Rattle.rules.specs.Relay.{bit}
-use Rattle.rules.specs.DescentPlaces.{word_of, pairWords, bit_at}
-use Rattle.rules.proofs.Loops.{length-ones, getD-ones, ones}
+use Rattle.rules.specs.DescentPlaces.{word_of, pair_words, bit_at}
+use Rattle.rules.proofs.Loops.{length-ones, get_d_ones, ones}
 use Rattle.rules.proofs.Places.{bit_is}
-use Rattle.bits.specs.Bits.{setBit, clearBit, Words}
-use Rattle.bits.proofs.Laws.{bit_of, bit-half, bitAt-set, bitAt-clear, length-setBit, length-clearBit, words-setBit, words-clearBit, words-told}
+use Rattle.bits.specs.Bits.{set_bit, clear_bit, Words}
+use Rattle.bits.proofs.Laws.{bit_of, bit_half, bit_at-set, bit_at-clear, length-set_bit, length-clear_bit, words-set_bit, words-clear_bit, words_told}
 
 -- ---- one word
 
@@ -33,7 +33,7 @@ word-bit (b ∷ bs) zero =
 word-bit (b ∷ bs) (suc k) =
     let l = bit-lt b in
     let e : (bit b + 2 * word_of bs) / 2 ≡ word_of bs = omega arith in
-    bit-half (bit b + 2 * word_of bs) k ∙ ap (λ (x : ℕ). bit_of x k) e ∙ word-bit bs k
+    bit_half (bit b + 2 * word_of bs) k ∙ ap (λ (x : ℕ). bit_of x k) e ∙ word-bit bs k
 
 pub word_lt : (bs : List Bool) → word_of bs < 2 ^ length bs
 unfolding word_of
@@ -42,15 +42,15 @@ word_lt (b ∷ bs) = let l = bit-lt b in let h = word_lt bs in let e = two-pow-s
 
 -- ---- all words
 
-pub length_pairs : (c : ℕ) (flags : List Bool) → length (pairWords c flags) ≡ c
-unfolding pairWords
+pub length_pairs : (c : ℕ) (flags : List Bool) → length (pair_words c flags) ≡ c
+unfolding pair_words
 length_pairs c flags = length-ones (λ (w : ℕ). word_of (take 32 (drop (32 * w) flags))) c
 
 few : (w : ℕ) (flags : List Bool) → length (take 32 (drop (32 * w) flags)) ≤ 32
 few w flags = let e = length-take 32 (drop (32 * w) flags) in omega arith
 
-pub pairs-words : (c : ℕ) (flags : List Bool) → Words (pairWords c flags)
-unfolding pairWords
+pub pairs-words : (c : ℕ) (flags : List Bool) → Words (pair_words c flags)
+unfolding pair_words
 pairs-words c flags q = go (ltb q c) refl
   where
     word : ℕ → ℕ
@@ -61,16 +61,16 @@ pairs-words c flags q = go (ltb q c) refl
         let l = ltb-true q c e in
         let bound = word_lt (take 32 (drop (32 * q) flags)) in
         let most : 2 ^ length (take 32 (drop (32 * q) flags)) ≤ 2 ^ 32 = pow_mono (few q flags) in
-        rw (getD-ones word c q 0 l) (lt_of_lt_of_le bound most)
+        rw (get_d_ones word c q 0 l) (lt_of_lt_of_le bound most)
     go false e =
         let l = ltb-false q c e in
         let long = length-ones word c in
         rw (get_or-eq_default (ones word c) 0 {n = q} (omega arith)) (omega arith)
 
-pub pairs-bit : (c : ℕ) (flags : List Bool) (p : ℕ) → p / 32 < c → bit_at (pairWords c flags) p ≡ get_or flags p false
-unfolding pairWords bit_at
+pub pairs-bit : (c : ℕ) (flags : List Bool) (p : ℕ) → p / 32 < c → bit_at (pair_words c flags) p ≡ get_or flags p false
+unfolding pair_words bit_at
 pairs-bit c flags p h =
-    ap (λ (w : ℕ). bit_of w (p % 32)) (getD-ones (λ (w : ℕ). word_of (take 32 (drop (32 * w) flags))) c (p / 32) 0 h)
+    ap (λ (w : ℕ). bit_of w (p % 32)) (get_d_ones (λ (w : ℕ). word_of (take 32 (drop (32 * w) flags))) c (p / 32) 0 h)
     ∙ word-bit (take 32 (drop (32 * (p / 32)) flags)) (p % 32)
     ∙ get_or-take 32 (drop (32 * (p / 32)) flags) (p % 32) false (mod-lt p (zero-lt-suc 31))
     ∙ get_or-drop (32 * (p / 32)) flags (p % 32) false
@@ -78,49 +78,49 @@ pairs-bit c flags p h =
 
 -- ---- one flag changed
 
-pub getD-changed : {A : Type 0} (xs : List A) (p j : ℕ) (x z : A) → p < length xs → get_or (set xs p x) j z ≡ cond (eqb p j) x (get_or xs j z)
-getD-changed {A} xs p j x z h = go (eqb p j) refl
+pub get_d_changed : {A : Type 0} (xs : List A) (p j : ℕ) (x z : A) → p < length xs → get_or (set xs p x) j z ≡ cond (eqb p j) x (get_or xs j z)
+get_d_changed {A} xs p j x z h = go (eqb p j) refl
   where
     go : (b : Bool) → eqb p j ≡ b → get_or (set xs p x) j z ≡ cond b x (get_or xs j z)
     go true e = let same = eqb-true p j e in ap (λ (q : ℕ). get_or (set xs p x) q z) (sym same) ∙ get_or-set_same xs p x z h
     go false e = get_or-set_other xs p j x z (λ (r : j ≡ p). eqb-false p j e (sym r))
 
 module _ (c p : ℕ) (flags : List Bool) (inside : p < length flags) (word : p / 32 < c) where
-  long-enough : p / 32 < length (pairWords c flags)
-  long-enough = let e = length_pairs c flags in omega arith
+  long_enough : p / 32 < length (pair_words c flags)
+  long_enough = let e = length_pairs c flags in omega arith
 
-  pub pairs_set : setBit p (pairWords c flags) ≡ pairWords c (set flags p true)
+  pub pairs_set : set_bit p (pair_words c flags) ≡ pair_words c (set flags p true)
   pairs_set =
-      words-told (setBit p (pairWords c flags)) (pairWords c (set flags p true))
-      (length-setBit p (pairWords c flags) ∙ length_pairs c flags ∙ sym (length_pairs c (set flags p true)))
-      (words-setBit p (pairWords c flags) long-enough (pairs-words c flags))
+      words_told (set_bit p (pair_words c flags)) (pair_words c (set flags p true))
+      (length-set_bit p (pair_words c flags) ∙ length_pairs c flags ∙ sym (length_pairs c (set flags p true)))
+      (words-set_bit p (pair_words c flags) long_enough (pairs-words c flags))
       (pairs-words c (set flags p true))
-      (λ j h. same j (let e = length-setBit p (pairWords c flags) in let f = length_pairs c flags in omega arith))
+      (λ j h. same j (let e = length-set_bit p (pair_words c flags) in let f = length_pairs c flags in omega arith))
     where
       or-cond : (a b : Bool) → (a || b) ≡ cond a true b
       or-cond true b = refl
       or-cond false b = refl
 
-      same : (j : ℕ) → j / 32 < c → bit_at (setBit p (pairWords c flags)) j ≡ bit_at (pairWords c (set flags p true)) j
+      same : (j : ℕ) → j / 32 < c → bit_at (set_bit p (pair_words c flags)) j ≡ bit_at (pair_words c (set flags p true)) j
       same j h =
-          bitAt-set p (pairWords c flags) j long-enough ∙ ap (λ (b : Bool). eqb p j || b) (pairs-bit c flags j h)
+          bit_at-set p (pair_words c flags) j long_enough ∙ ap (λ (b : Bool). eqb p j || b) (pairs-bit c flags j h)
           ∙ or-cond (eqb p j) (get_or flags j false)
-          ∙ sym (pairs-bit c (set flags p true) j h ∙ getD-changed flags p j true false inside)
+          ∙ sym (pairs-bit c (set flags p true) j h ∙ get_d_changed flags p j true false inside)
 
-  pub pairs-clear : clearBit p (pairWords c flags) ≡ pairWords c (set flags p false)
+  pub pairs-clear : clear_bit p (pair_words c flags) ≡ pair_words c (set flags p false)
   pairs-clear =
-      words-told (clearBit p (pairWords c flags)) (pairWords c (set flags p false))
-      (length-clearBit p (pairWords c flags) ∙ length_pairs c flags ∙ sym (length_pairs c (set flags p false)))
-      (words-clearBit p (pairWords c flags) long-enough (pairs-words c flags))
+      words_told (clear_bit p (pair_words c flags)) (pair_words c (set flags p false))
+      (length-clear_bit p (pair_words c flags) ∙ length_pairs c flags ∙ sym (length_pairs c (set flags p false)))
+      (words-clear_bit p (pair_words c flags) long_enough (pairs-words c flags))
       (pairs-words c (set flags p false))
-      (λ j h. same j (let e = length-clearBit p (pairWords c flags) in let f = length_pairs c flags in omega arith))
+      (λ j h. same j (let e = length-clear_bit p (pair_words c flags) in let f = length_pairs c flags in omega arith))
     where
       and-cond : (a b : Bool) → (not a && b) ≡ cond a false b
       and-cond true b = refl
       and-cond false b = refl
 
-      same : (j : ℕ) → j / 32 < c → bit_at (clearBit p (pairWords c flags)) j ≡ bit_at (pairWords c (set flags p false)) j
+      same : (j : ℕ) → j / 32 < c → bit_at (clear_bit p (pair_words c flags)) j ≡ bit_at (pair_words c (set flags p false)) j
       same j h =
-          bitAt-clear p (pairWords c flags) j long-enough ∙ ap (λ (b : Bool). not (eqb p j) && b) (pairs-bit c flags j h)
+          bit_at-clear p (pair_words c flags) j long_enough ∙ ap (λ (b : Bool). not (eqb p j) && b) (pairs-bit c flags j h)
           ∙ and-cond (eqb p j) (get_or flags j false)
-          ∙ sym (pairs-bit c (set flags p false) j h ∙ getD-changed flags p j false false inside)
+          ∙ sym (pairs-bit c (set flags p false) j h ∙ get_d_changed flags p j false false inside)

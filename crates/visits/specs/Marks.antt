@@ -1,13 +1,13 @@
 -- The flags of pairs in the words of a slice from a place on, and what a change of one does. Assumes nothing.
 use Rattle.std.specs.Prelude.{◌≡◌, Bool, List, ℕ, ◌+◌, ◌*◌, ◌/◌, ◌<◌, length, take, drop}
-use Rattle.rules.specs.DescentPlaces.{pairWords}
+use Rattle.rules.specs.DescentPlaces.{pair_words}
 
 -- how many words hold the bits of n times n pairs
 abbrev pub marks : ℕ → ℕ
 marks n = (n * n + 31) / 32
 
 pub record Holds (base n : ℕ) (flags : List Bool) (us : List ℕ) : Type 0 where
-  pub words : drop base us ≡ pairWords (marks n) flags
+  pub words : drop base us ≡ pair_words (marks n) flags
   pub long : length flags ≡ n * n
 
 -- whatever flags the words held, they hold those changed by f; what lies before them stays

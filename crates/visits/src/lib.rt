@@ -1,6 +1,6 @@
 // Visited pairs: a bit for each pair of nodes, in the words of a lent slice from a place on.
 ghost use Rattle.std.specs.Prelude.{◌≡◌, Bool, List, ◌+◌, ◌≤◌, ◌<◌, length};
-ghost use Rattle.rules.specs.Descent.{isVisited, visit, unvisit};
+ghost use Rattle.rules.specs.Descent.{is_visited, visit, unvisit};
 ghost use Rattle.visits.specs.Marks.{marks, Holds, Marked, PairAt};
 
 use rules::NodeId;
@@ -16,7 +16,7 @@ fn pair_at(n: usize, i: NodeId, j: NodeId) -> usize
 /// Whether the pair (i, j) is visited (hora's `visited_id.contains`).
 pub fn is_visited(words: &[u32], base: usize, n: usize, i: NodeId, j: NodeId) -> bool
     requires { (n ≤ 1024) × (i.0 < n) × (j.0 < n) × (length words.now ≡ base + marks n) }
-    ensures { (flags : List Bool) → Holds base n flags words.now → result ≡ isVisited n i.0 j.0 flags }
+    ensures { (flags : List Bool) → Holds base n flags words.now → result ≡ is_visited n i.0 j.0 flags }
 {
     let p = pair_at(n, i, j);
     bits::bit_at(&words[base..], p)

@@ -9,14 +9,14 @@ use lib.Dec.{ltb}
 use lib.ListN.{length, take, get_or, replicate, length-replicate, length-take}
 use Rattle.rules.specs.declared.Distance.{Distance}
 use Rattle.rules.specs.declared.Neighbor.{Neighbor}
-use Rattle.rules.specs.Lists.{nodesOf}
-use Rattle.rules.specs.Rows.{graphRow}
-use Rattle.rules.specs.Search.{Walk, on, Found, Taken, and_then, visits, rootsFound, started, joins, tooFar, takeThese, rowEnded, expand, walk, searchOf}
+use Rattle.rules.specs.Lists.{nodes_of}
+use Rattle.rules.specs.Rows.{graph_row}
+use Rattle.rules.specs.Search.{Walk, on, Found, Taken, and_then, visits, roots_found, started, joins, too_far, take_these, row_ended, expand, walk, search_of}
 use Rattle.lists.proofs.Plain.{length-nodes}
 use Rattle.expand.specs.Queue.{ones, AllBelow}
-use Rattle.expand.proofs.Sound.{ones-most, below-live, Whenever, whenever-then, Grown, grown-visits, queued-these, joined-long}
+use Rattle.expand.proofs.Sound.{ones-most, below-live, Whenever, whenever_then, Grown, grown_visits, queued_these, joined-long}
 use Rattle.walk.specs.Walks.{Roots}
-use Rattle.walk.proofs.Marks.{marks-long, marks-count, found-long, all-below}
+use Rattle.walk.proofs.Marks.{marks-long, marks-count, found_long, all-below}
 use Rattle.walk.proofs.Walking.{nothing-below, cut_below}
 
 -- as many nodes joined as are seen at most, all below n
@@ -26,7 +26,7 @@ record Sound (n : ℕ) (s : Walk) : Type 0 where
   below : AllBelow n s.queue
   taken : s.takings ≤ length s.queue
 
-at_first : (n k : ℕ) (roots : List ℕ) (sorted : List Neighbor) → Roots n roots → AllBelow n (nodesOf sorted) × (length sorted ≡ length roots) → Sound n (started n k roots sorted)
+at_first : (n k : ℕ) (roots : List ℕ) (sorted : List Neighbor) → Roots n roots → AllBelow n (nodes_of sorted) × (length sorted ≡ length roots) → Sound n (started n k roots sorted)
 unfolding started
 at_first n k roots sorted fine b =
     let zeros : length (replicate {A = ℕ} n 0) ≡ n = length-replicate n 0 in
@@ -42,27 +42,27 @@ at_first n k roots sorted fine b =
     }
 
 -- the queue only grows
-queue-grows : (es : List Neighbor) (t : Taken) → length t.queue ≤ length (takeThese es t).queue
-unfolding takeThese
-queue-grows [] t = omega arith
-queue-grows (e ∷ es) t = go (tooFar e t.best) (queue-grows es (joins e t))
+queue_grows : (es : List Neighbor) (t : Taken) → length t.queue ≤ length (take_these es t).queue
+unfolding take_these
+queue_grows [] t = omega arith
+queue_grows (e ∷ es) t = go (too_far e t.best) (queue_grows es (joins e t))
   where
-    go : (b : Bool) → length (joins e t).queue ≤ length (takeThese es (joins e t)).queue → length t.queue ≤ length (cond b t (takeThese es (joins e t))).queue
+    go : (b : Bool) → length (joins e t).queue ≤ length (take_these es (joins e t)).queue → length t.queue ≤ length (cond b t (take_these es (joins e t))).queue
     go true h = omega arith
     go false h = let one = joined-long e t in omega arith
 
 module _ (apart : ℕ → Distance) (rows : ℕ → List ℕ) (n : ℕ) (inside : (v : ℕ) → AllBelow n (rows v)) where
   sound-expand : (s : Walk) → Sound n s → s.takings < length s.queue → Whenever (λ (t : Walk). Sound n t × (t.takings ≡ suc s.takings)) (expand apart rows s)
-  unfolding expand Whenever rowEnded
+  unfolding expand Whenever row_ended
   sound-expand s p h =
       let f₀ : Found = record { seen = s.seen; entries = []; worked = s.worked } in
-      whenever-then (Grown n f₀) (λ (t : Walk). Sound n t × (t.takings ≡ suc s.takings)) (visits apart (rows (get_or s.queue s.takings 0)) f₀) (λ (f : Found). on (rowEnded s f))
-      (grown-visits apart n f₀ (rows (get_or s.queue s.takings 0)) f₀ (inside (get_or s.queue s.takings 0)) (record { long = p.long; count = refl; below = nothing-below n }))
+      whenever_then (Grown n f₀) (λ (t : Walk). Sound n t × (t.takings ≡ suc s.takings)) (visits apart (rows (get_or s.queue s.takings 0)) f₀) (λ (f : Found). on (row_ended s f))
+      (grown_visits apart n f₀ (rows (get_or s.queue s.takings 0)) f₀ (inside (get_or s.queue s.takings 0)) (record { long = p.long; count = refl; below = nothing-below n }))
       (λ (f : Found) g. ended f g)
     where
-      ended : (f : Found) → Grown n (record { seen = s.seen; entries = []; worked = s.worked }) f → Sound n (rowEnded s f) × (suc s.takings ≡ suc s.takings)
+      ended : (f : Found) → Grown n (record { seen = s.seen; entries = []; worked = s.worked }) f → Sound n (row_ended s f) × (suc s.takings ≡ suc s.takings)
       ended f g =
-          let q = queued-these n f.entries (record { best = s.best; queue = s.queue }) g.below p.below in
+          let q = queued_these n f.entries (record { best = s.best; queue = s.queue }) g.below p.below in
           let most = q.most in
           let count = g.count in
           let few = p.few in (
@@ -70,8 +70,8 @@ module _ (apart : ℕ → Distance) (rows : ℕ → List ℕ) (n : ℕ) (inside 
             refl,
           )
         where
-          joined : (f : Found) → suc s.takings ≤ length (takeThese f.entries (record { best = s.best; queue = s.queue })).queue
-          joined f = let grows = queue-grows f.entries (record { best = s.best; queue = s.queue }) in omega arith
+          joined : (f : Found) → suc s.takings ≤ length (take_these f.entries (record { best = s.best; queue = s.queue })).queue
+          joined f = let grows = queue_grows f.entries (record { best = s.best; queue = s.queue }) in omega arith
 
   -- whoever has been taken stays in the queue
   sound-walk : (limit : ℕ) (s : Walk) → Sound n s → n ≤ s.takings + limit → Whenever (λ (t : Walk). t.takings ≡ length t.queue) (walk apart rows limit s)
@@ -87,7 +87,7 @@ module _ (apart : ℕ → Distance) (rows : ℕ → List ℕ) (n : ℕ) (inside 
       go : (b : Bool) → ltb s.takings (length s.queue) ≡ b → ((t : Walk) → Sound n t → n ≤ t.takings + limit → Whenever (λ (t : Walk). t.takings ≡ length t.queue) (walk apart rows limit t))
           → Whenever (λ (t : Walk). t.takings ≡ length t.queue) (cond b (and_then (expand apart rows s) (walk apart rows limit)) (on s))
       go true e more =
-          whenever-then (λ (t : Walk). Sound n t × (t.takings ≡ suc s.takings)) (λ (t : Walk). t.takings ≡ length t.queue) (expand apart rows s) (walk apart rows limit)
+          whenever_then (λ (t : Walk). Sound n t × (t.takings ≡ suc s.takings)) (λ (t : Walk). t.takings ≡ length t.queue) (expand apart rows s) (walk apart rows limit)
           (sound-expand s p (ltb-true s.takings (length s.queue) e))
           (λ (t : Walk) q. more t q.0 (let one = q.1 in omega arith))
       go false e more =
@@ -95,17 +95,17 @@ module _ (apart : ℕ → Distance) (rows : ℕ → List ℕ) (n : ℕ) (inside 
           let taken = p.taken in
           omega arith
 
-  pub enough : (k : ℕ) (roots : List ℕ) → Roots n roots → Whenever (λ (t : Walk). t.takings ≡ length t.queue) (searchOf apart rows n k roots)
-  unfolding searchOf started
+  pub enough : (k : ℕ) (roots : List ℕ) → Roots n roots → Whenever (λ (t : Walk). t.takings ≡ length t.queue) (search_of apart rows n k roots)
+  unfolding search_of started
   enough k roots fine =
-      whenever-then (λ (es : List Neighbor). AllBelow n (nodesOf es) × (length es ≡ length roots + 0)) (λ (t : Walk). t.takings ≡ length t.queue) (rootsFound apart roots [])
-      (λ (sorted : List Neighbor). walk apart rows n (started n k roots sorted)) (found-long apart n roots [] (all-below n roots fine.below) (nothing-below n))
+      whenever_then (λ (es : List Neighbor). AllBelow n (nodes_of es) × (length es ≡ length roots + 0)) (λ (t : Walk). t.takings ≡ length t.queue) (roots_found apart roots [])
+      (λ (sorted : List Neighbor). walk apart rows n (started n k roots sorted)) (found_long apart n roots [] (all-below n roots fine.below) (nothing-below n))
       (λ (sorted : List Neighbor) b. sound-walk n (started n k roots sorted) (begun sorted b) (omega arith))
     where
-      begun : (sorted : List Neighbor) → AllBelow n (nodesOf sorted) × (length sorted ≡ length roots + 0) → Sound n (started n k roots sorted)
+      begun : (sorted : List Neighbor) → AllBelow n (nodes_of sorted) × (length sorted ≡ length roots + 0) → Sound n (started n k roots sorted)
       begun sorted b = at_first n k roots sorted fine (b.0, let all = b.1 in omega arith)
 
 -- of any graph: the live part of a row holds nodes below n
-pub enough-graph : (apart : ℕ → Distance) (n width : ℕ) (graph : List ℕ) (k : ℕ) (roots : List ℕ) → Roots n roots → Whenever (λ (t : Walk). t.takings ≡ length t.queue) (searchOf apart (graphRow n width graph) n k roots)
-unfolding graphRow
-enough-graph apart n width graph k roots fine = enough apart (graphRow n width graph) n (λ (v : ℕ). below-live n _) k roots fine
+pub enough_graph : (apart : ℕ → Distance) (n width : ℕ) (graph : List ℕ) (k : ℕ) (roots : List ℕ) → Roots n roots → Whenever (λ (t : Walk). t.takings ≡ length t.queue) (search_of apart (graph_row n width graph) n k roots)
+unfolding graph_row
+enough_graph apart n width graph k roots fine = enough apart (graph_row n width graph) n (λ (v : ℕ). below-live n _) k roots fine

@@ -11,15 +11,15 @@ use lib.Seq.{take-suc, take-length, get_or-set_same, get_or-set_other}
 use Rattle.rules.specs.declared.Distance.{Distance}
 use Rattle.rules.specs.declared.Neighbor.{Neighbor}
 use Rattle.rules.specs.Loops.{through, has}
-use Rattle.rules.specs.Lists.{nodesOf}
-use Rattle.rules.specs.Search.{Going, on, unfitAt, worksOut, mark, isSeen, rootsFound}
+use Rattle.rules.specs.Lists.{nodes_of}
+use Rattle.rules.specs.Search.{Going, on, unfit_at, works_out, mark, is_seen, roots_found}
 use Rattle.rules.proofs.Loops.{through-append}
 use Rattle.expand.specs.Queue.{ones, AllBelow}
-use Rattle.expand.proofs.Sound.{ones-most, ones-mark, mark-long, Whenever, whenever-then, pushes-below, pushes-both}
+use Rattle.expand.proofs.Sound.{ones-most, ones-mark, mark-long, Whenever, whenever_then, pushes_below, pushes_both}
 use Rattle.walk.specs.Walks.{Roots}
 
-pub seen-mark : (v w : ℕ) (xs : List ℕ) → v < length xs → isSeen v (mark w xs) ≡ (eqb v w || isSeen v xs)
-unfolding isSeen mark
+pub seen-mark : (v w : ℕ) (xs : List ℕ) → v < length xs → is_seen v (mark w xs) ≡ (eqb v w || is_seen v xs)
+unfolding is_seen mark
 seen-mark v w xs h = go (eqb v w) refl
   where
     go : (b : Bool) → eqb v w ≡ b → eqb (get_or (set xs w 1) v 0) 1 ≡ (b || eqb (get_or xs v 0) 1)
@@ -34,12 +34,12 @@ marks-long [] xs = refl
 marks-long (v ∷ vs) xs = marks-long vs (mark v xs) ∙ mark-long v xs
 
 -- what is seen is what was marked
-seen-marks : (v : ℕ) (vs xs : List ℕ) → v < length xs → isSeen v (through mark vs xs) ≡ (has v vs || isSeen v xs)
+seen-marks : (v : ℕ) (vs xs : List ℕ) → v < length xs → is_seen v (through mark vs xs) ≡ (has v vs || is_seen v xs)
 unfolding through has
 seen-marks v [] xs h = refl
 seen-marks v (w ∷ vs) xs h =
     let long = mark-long w xs in
-    seen-marks v vs (mark w xs) (omega arith) ∙ ap (λ (b : Bool). has v vs || b) (seen-mark v w xs h) ∙ turn (has v vs) (eqb v w) (isSeen v xs)
+    seen-marks v vs (mark w xs) (omega arith) ∙ ap (λ (b : Bool). has v vs || b) (seen-mark v w xs h) ∙ turn (has v vs) (eqb v w) (is_seen v xs)
   where
     turn : (a b c : Bool) → (a || (b || c)) ≡ ((b || a) || c)
     turn true true c = refl
@@ -47,28 +47,28 @@ seen-marks v (w ∷ vs) xs h =
     turn false true c = refl
     turn false false c = refl
 
-unseen-at-first : (n v : ℕ) → v < n → isSeen v (replicate n 0) ≡ false
-unfolding isSeen
-unseen-at-first n v h = ap (λ (x : ℕ). eqb x 1) (get_or-replicate n v 0 0 h)
+unseen_at-first : (n v : ℕ) → v < n → is_seen v (replicate n 0) ≡ false
+unfolding is_seen
+unseen_at-first n v h = ap (λ (x : ℕ). eqb x 1) (get_or-replicate n v 0 0 h)
 
-none-at-first : (n : ℕ) → ones (replicate n 0) ≡ 0
+none_at-first : (n : ℕ) → ones (replicate n 0) ≡ 0
 unfolding ones
-none-at-first zero = refl
-none-at-first (suc n) = let ih = none-at-first n in omega arith
+none_at-first zero = refl
+none_at-first (suc n) = let ih = none_at-first n in omega arith
 
 module _ (n : ℕ) (roots : List ℕ) (fine : Roots n roots) where
   counted : (i : ℕ) → i ≤ length roots → ones (through mark (take i roots) (replicate n 0)) ≡ i
   unfolding through
-  counted zero h = none-at-first n
+  counted zero h = none_at-first n
   counted (suc i) h =
       let v = get_or roots i 0 in
       let below = fine.below i h in
       let zeros : length (replicate {A = ℕ} n 0) ≡ n = length-replicate n 0 in
       let long = marks-long (take i roots) (replicate n 0) in
-      let unseen : isSeen v (through mark (take i roots) (replicate n 0)) ≡ false =
+      let unseen : is_seen v (through mark (take i roots) (replicate n 0)) ≡ false =
       seen-marks v (take i roots) (replicate n 0) (omega arith)
-      ∙ ap (λ (b : Bool). b || isSeen v (replicate n 0)) (fine.different i h)
-      ∙ unseen-at-first n v below in
+      ∙ ap (λ (b : Bool). b || is_seen v (replicate n 0)) (fine.different i h)
+      ∙ unseen_at-first n v below in
       ap (λ (l : List ℕ). ones (through mark l (replicate n 0))) (take-suc roots i 0 h)
       ∙ ap ones (through-append mark (take i roots) (v ∷ []) (replicate n 0))
       ∙ ones-mark v (through mark (take i roots) (replicate n 0)) (omega arith) unseen
@@ -85,35 +85,35 @@ module _ (n : ℕ) (roots : List ℕ) (fine : Roots n roots) where
       let zeros : length (replicate {A = ℕ} n 0) ≡ n = length-replicate n 0 in
       omega arith
 
-weaken : (g : Going (List Neighbor)) (a b c n : ℕ) → b ≡ suc c → Whenever (λ (gs : List Neighbor). AllBelow n (nodesOf gs) × (length gs ≡ a + b)) g
-    → Whenever (λ (gs : List Neighbor). AllBelow n (nodesOf gs) × (length gs ≡ suc a + c)) g
+weaken : (g : Going (List Neighbor)) (a b c n : ℕ) → b ≡ suc c → Whenever (λ (gs : List Neighbor). AllBelow n (nodes_of gs) × (length gs ≡ a + b)) g
+    → Whenever (λ (gs : List Neighbor). AllBelow n (nodes_of gs) × (length gs ≡ suc a + c)) g
 unfolding Whenever
 weaken (on gs) a b c n e w = (w.0, let f = w.1 in omega arith)
-weaken (unfitAt v) a b c n e w = tt
+weaken (unfit_at v) a b c n e w = tt
 
 -- the roots found are below n
-pub found_below : (apart : ℕ → Distance) (n : ℕ) (vs : List ℕ) (es : List Neighbor) → AllBelow n vs → AllBelow n (nodesOf es) → Whenever (λ (fs : List Neighbor). AllBelow n (nodesOf fs)) (rootsFound apart vs es)
-unfolding rootsFound AllBelow Whenever
+pub found_below : (apart : ℕ → Distance) (n : ℕ) (vs : List ℕ) (es : List Neighbor) → AllBelow n vs → AllBelow n (nodes_of es) → Whenever (λ (fs : List Neighbor). AllBelow n (nodes_of fs)) (roots_found apart vs es)
+unfolding roots_found AllBelow Whenever
 found_below apart n [] es b c = c
 found_below apart n (v ∷ vs) es b c =
-    whenever-then (λ (fs : List Neighbor). AllBelow n (nodesOf fs)) (λ (fs : List Neighbor). AllBelow n (nodesOf fs)) (worksOut apart v es (apart v)) (rootsFound apart vs)
-    (pushes-below apart n v es (apart v) b.0 c)
+    whenever_then (λ (fs : List Neighbor). AllBelow n (nodes_of fs)) (λ (fs : List Neighbor). AllBelow n (nodes_of fs)) (works_out apart v es (apart v)) (roots_found apart vs)
+    (pushes_below apart n v es (apart v) b.0 c)
     (λ (fs : List Neighbor) h. found_below apart n vs fs b.1 h)
 
 -- and as many as there are roots
-pub found-long : (apart : ℕ → Distance) (n : ℕ) (vs : List ℕ) (es : List Neighbor) → AllBelow n vs → AllBelow n (nodesOf es)
-    → Whenever (λ (fs : List Neighbor). AllBelow n (nodesOf fs) × (length fs ≡ length vs + length es)) (rootsFound apart vs es)
-unfolding rootsFound AllBelow Whenever
-found-long apart n [] es b c = (c, omega arith)
-found-long apart n (v ∷ vs) es b c =
-    whenever-then (λ (fs : List Neighbor). AllBelow n (nodesOf fs) × (length fs ≡ suc (length es))) (λ (fs : List Neighbor). AllBelow n (nodesOf fs) × (length fs ≡ suc (length vs) + length es))
-    (worksOut apart v es (apart v)) (rootsFound apart vs) (pushes-both apart n v es (apart v) b.0 c)
-    (λ (fs : List Neighbor) h. more fs h (found-long apart n vs fs b.1 h.0))
+pub found_long : (apart : ℕ → Distance) (n : ℕ) (vs : List ℕ) (es : List Neighbor) → AllBelow n vs → AllBelow n (nodes_of es)
+    → Whenever (λ (fs : List Neighbor). AllBelow n (nodes_of fs) × (length fs ≡ length vs + length es)) (roots_found apart vs es)
+unfolding roots_found AllBelow Whenever
+found_long apart n [] es b c = (c, omega arith)
+found_long apart n (v ∷ vs) es b c =
+    whenever_then (λ (fs : List Neighbor). AllBelow n (nodes_of fs) × (length fs ≡ suc (length es))) (λ (fs : List Neighbor). AllBelow n (nodes_of fs) × (length fs ≡ suc (length vs) + length es))
+    (works_out apart v es (apart v)) (roots_found apart vs) (pushes_both apart n v es (apart v) b.0 c)
+    (λ (fs : List Neighbor) h. more fs h (found_long apart n vs fs b.1 h.0))
   where
-    more : (fs : List Neighbor) → AllBelow n (nodesOf fs) × (length fs ≡ suc (length es))
-        → Whenever (λ (gs : List Neighbor). AllBelow n (nodesOf gs) × (length gs ≡ length vs + length fs)) (rootsFound apart vs fs)
-        → Whenever (λ (gs : List Neighbor). AllBelow n (nodesOf gs) × (length gs ≡ suc (length vs) + length es)) (rootsFound apart vs fs)
-    more fs h w = weaken (rootsFound apart vs fs) (length vs) (length fs) (length es) n h.1 w
+    more : (fs : List Neighbor) → AllBelow n (nodes_of fs) × (length fs ≡ suc (length es))
+        → Whenever (λ (gs : List Neighbor). AllBelow n (nodes_of gs) × (length gs ≡ length vs + length fs)) (roots_found apart vs fs)
+        → Whenever (λ (gs : List Neighbor). AllBelow n (nodes_of gs) × (length gs ≡ suc (length vs) + length es)) (roots_found apart vs fs)
+    more fs h w = weaken (roots_found apart vs fs) (length vs) (length fs) (length es) n h.1 w
 
 pub all-below : (n : ℕ) (vs : List ℕ) → ((i : ℕ) → i < length vs → get_or vs i 0 < n) → AllBelow n vs
 unfolding AllBelow

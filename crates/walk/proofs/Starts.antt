@@ -9,27 +9,27 @@ use lib.Seq.{take-suc, get_or-take, get_or-drop, get_or-set_same, take-set-le}
 use lib.Ieee.{Float, nan}
 use Rattle.rules.specs.declared.Neighbor.{Neighbor}
 use Rattle.rules.specs.Lists.{neighbor, entries}
-use Rattle.lists.proofs.Slices.{entries-suc, entries-same, nodesOf-entries}
+use Rattle.lists.proofs.Slices.{entries-suc, entries-same, nodes_of-entries}
 use Rattle.buffers.specs.Area.{area}
-use Rattle.expand.specs.Areas.{bestAt, found_at, queueIn, bestIn, foundIn, Room, FoundKept}
-use Rattle.buffers.proofs.Places.{length-area, set-area, set-low, set-high}
-use Rattle.expand.proofs.Areas.{queue-grown, queue-stored, found-kept, found-kept-on}
+use Rattle.expand.specs.Areas.{best_at, found_at, queue_in, best_in, found_in, Room, FoundKept}
+use Rattle.buffers.proofs.Places.{length-area, set-area, set-low, set_high}
+use Rattle.expand.proofs.Areas.{queue_grown, queue_stored, found-kept, found-kept-on}
 use Rattle.walk.specs.Walks.{Entered}
 
 -- ---- the first found enter the best set and the queue
 
 pub record Entering (n : ℕ) (us₀ : List ℕ) (fs₀ : List Float) (us : List ℕ) (fs : List Float) (i : ℕ) : Type 0 where
-  pub best : bestIn n us fs i ≡ foundIn n us₀ fs₀ i
-  pub queue : take i (queueIn n us) ≡ take i (area (found_at n) 64 us₀)
+  pub best : best_in n us fs i ≡ found_in n us₀ fs₀ i
+  pub queue : take i (queue_in n us) ≡ take i (area (found_at n) 64 us₀)
   pub kept : FoundKept n us₀ fs₀ us fs
 
-pub entering-none : (n : ℕ) (us : List ℕ) (fs : List Float) → Entering n us fs us fs 0
+pub entering_none : (n : ℕ) (us : List ℕ) (fs : List Float) → Entering n us fs us fs 0
 unfolding entries
-entering-none n us fs = record { best = refl; queue = refl; kept = found-kept }
+entering_none n us fs = record { best = refl; queue = refl; kept = found-kept }
 
 -- a store in the best set
-best-stored : (n : ℕ) (us : List ℕ) (fs : List Float) (i v : ℕ) (x : Float) → i < 64 → FoundKept n us fs (set us (n + n + i) v) (set fs (n + n + i) x)
-best-stored n us fs i v x h =
+best_stored : (n : ℕ) (us : List ℕ) (fs : List Float) (i v : ℕ) (x : Float) → i < 64 → FoundKept n us fs (set us (n + n + i) v) (set fs (n + n + i) x)
+best_stored n us fs i v x h =
     record {
       seen = take-set-le n us (n + n + i) v (omega arith);
       nodes = set-low us (n + n + i) v (found_at n) 64 (omega arith);
@@ -40,71 +40,71 @@ best-stored n us fs i v x h =
 
 module _ {n : ℕ} {us₀ : List ℕ} {fs₀ : List Float} {us : List ℕ} {fs : List Float} {i : ℕ} (room : Room n us₀ fs₀) (inv : Entering n us₀ fs₀ us fs i) (h : i < 64) (k : i < n) where
   -- what the code reads
-  abbrev nodeRead : ℕ
-  nodeRead = get_or us (n + n + 64 + i) 0
+  abbrev node_read : ℕ
+  node_read = get_or us (n + n + 64 + i) 0
 
-  abbrev distRead : Float
-  distRead = get_or fs (n + n + 64 + i) nan
+  abbrev dist_read : Float
+  dist_read = get_or fs (n + n + 64 + i) nan
 
   abbrev us₁ : List ℕ
-  us₁ = set us (n + n + i) nodeRead
+  us₁ = set us (n + n + i) node_read
 
   abbrev fs₁ : List Float
-  fs₁ = set fs (n + n + i) distRead
+  fs₁ = set fs (n + n + i) dist_read
 
-  node-is : nodeRead ≡ get_or (area (found_at n) 64 us₀) i 0
-  node-is = sym (get_or-drop (found_at n) us i 0) ∙ sym (get_or-take 64 (drop (found_at n) us) i 0 h) ∙ ap (λ (l : List ℕ). get_or l i 0) inv.kept.nodes
+  node_is : node_read ≡ get_or (area (found_at n) 64 us₀) i 0
+  node_is = sym (get_or-drop (found_at n) us i 0) ∙ sym (get_or-take 64 (drop (found_at n) us) i 0 h) ∙ ap (λ (l : List ℕ). get_or l i 0) inv.kept.nodes
 
-  dist-is : distRead ≡ get_or (area (found_at n) 64 fs₀) i nan
-  dist-is = sym (get_or-drop (found_at n) fs i nan) ∙ sym (get_or-take 64 (drop (found_at n) fs) i nan h) ∙ ap (λ (l : List Float). get_or l i nan) inv.kept.dists
+  dist_is : dist_read ≡ get_or (area (found_at n) 64 fs₀) i nan
+  dist_is = sym (get_or-drop (found_at n) fs i nan) ∙ sym (get_or-take 64 (drop (found_at n) fs) i nan h) ∙ ap (λ (l : List Float). get_or l i nan) inv.kept.dists
 
-  pub entering-more : Entering n us₀ fs₀ (set us₁ (n + i) nodeRead) fs₁ (i + 1)
-  entering-more =
+  pub entering_more : Entering n us₀ fs₀ (set us₁ (n + i) node_read) fs₁ (i + 1)
+  entering_more =
       let w = room.words in
       let x = room.floats in
       let wl = inv.kept.words in
       let fl = inv.kept.floats in
-      let bn = length-area (bestAt n) 64 us (omega arith) in
-      let bd = length-area (bestAt n) 64 fs (omega arith) in
+      let bn = length-area (best_at n) 64 us (omega arith) in
+      let bd = length-area (best_at n) 64 fs (omega arith) in
       let fn = length-area (found_at n) 64 us₀ (omega arith) in
       let fd = length-area (found_at n) 64 fs₀ (omega arith) in
-      let nodes : area (bestAt n) 64 (set us₁ (n + i) nodeRead) ≡ set (area (bestAt n) 64 us) i nodeRead =
-      set-low us₁ (n + i) nodeRead (bestAt n) 64 (omega arith) ∙ set-area us (n + n + i) nodeRead (bestAt n) 64 i refl h in
-      let dists : area (bestAt n) 64 fs₁ ≡ set (area (bestAt n) 64 fs) i distRead = set-area fs (n + n + i) distRead (bestAt n) 64 i refl h in
-      let sl = length-set (area (bestAt n) 64 us) i nodeRead in
-      let dl = length-set (area (bestAt n) 64 fs) i distRead in
+      let nodes : area (best_at n) 64 (set us₁ (n + i) node_read) ≡ set (area (best_at n) 64 us) i node_read =
+      set-low us₁ (n + i) node_read (best_at n) 64 (omega arith) ∙ set-area us (n + n + i) node_read (best_at n) 64 i refl h in
+      let dists : area (best_at n) 64 fs₁ ≡ set (area (best_at n) 64 fs) i dist_read = set-area fs (n + n + i) dist_read (best_at n) 64 i refl h in
+      let sl = length-set (area (best_at n) 64 us) i node_read in
+      let dl = length-set (area (best_at n) 64 fs) i dist_read in
       record {
         best =
-            ap (λ (l : List ℕ). entries (i + 1) l (area (bestAt n) 64 fs₁)) nodes
-            ∙ ap (λ (l : List Float). entries (i + 1) (set (area (bestAt n) 64 us) i nodeRead) l) dists
-            ∙ ap (λ (j : ℕ). entries j (set (area (bestAt n) 64 us) i nodeRead) (set (area (bestAt n) 64 fs) i distRead)) (add-one i)
-            ∙ entries-suc i (set (area (bestAt n) 64 us) i nodeRead) (set (area (bestAt n) 64 fs) i distRead) 0 nan (omega arith) (omega arith)
-            ∙ ap (λ (es : List Neighbor). es ++ (neighbor (get_or (set (area (bestAt n) 64 us) i nodeRead) i 0) (get_or (set (area (bestAt n) 64 fs) i distRead) i nan) ∷ []))
-            (entries-same i (set (area (bestAt n) 64 us) i nodeRead) (area (bestAt n) 64 us) (set (area (bestAt n) 64 fs) i distRead) (area (bestAt n) 64 fs)
-            (take-set-le i (area (bestAt n) 64 us) i nodeRead (omega arith)) (take-set-le i (area (bestAt n) 64 fs) i distRead (omega arith))
+            ap (λ (l : List ℕ). entries (i + 1) l (area (best_at n) 64 fs₁)) nodes
+            ∙ ap (λ (l : List Float). entries (i + 1) (set (area (best_at n) 64 us) i node_read) l) dists
+            ∙ ap (λ (j : ℕ). entries j (set (area (best_at n) 64 us) i node_read) (set (area (best_at n) 64 fs) i dist_read)) (add-one i)
+            ∙ entries-suc i (set (area (best_at n) 64 us) i node_read) (set (area (best_at n) 64 fs) i dist_read) 0 nan (omega arith) (omega arith)
+            ∙ ap (λ (es : List Neighbor). es ++ (neighbor (get_or (set (area (best_at n) 64 us) i node_read) i 0) (get_or (set (area (best_at n) 64 fs) i dist_read) i nan) ∷ []))
+            (entries-same i (set (area (best_at n) 64 us) i node_read) (area (best_at n) 64 us) (set (area (best_at n) 64 fs) i dist_read) (area (best_at n) 64 fs)
+            (take-set-le i (area (best_at n) 64 us) i node_read (omega arith)) (take-set-le i (area (best_at n) 64 fs) i dist_read (omega arith))
             ∙ inv.best)
-            ∙ ap (λ (v : ℕ). foundIn n us₀ fs₀ i ++ (neighbor v (get_or (set (area (bestAt n) 64 fs) i distRead) i nan) ∷ []))
-            (get_or-set_same (area (bestAt n) 64 us) i nodeRead 0 (omega arith) ∙ node-is)
-            ∙ ap (λ (d : Float). foundIn n us₀ fs₀ i ++ (neighbor (get_or (area (found_at n) 64 us₀) i 0) d ∷ []))
-            (get_or-set_same (area (bestAt n) 64 fs) i distRead nan (omega arith) ∙ dist-is)
+            ∙ ap (λ (v : ℕ). found_in n us₀ fs₀ i ++ (neighbor v (get_or (set (area (best_at n) 64 fs) i dist_read) i nan) ∷ []))
+            (get_or-set_same (area (best_at n) 64 us) i node_read 0 (omega arith) ∙ node_is)
+            ∙ ap (λ (d : Float). found_in n us₀ fs₀ i ++ (neighbor (get_or (area (found_at n) 64 us₀) i 0) d ∷ []))
+            (get_or-set_same (area (best_at n) 64 fs) i dist_read nan (omega arith) ∙ dist_is)
             ∙ sym (entries-suc i (area (found_at n) 64 us₀) (area (found_at n) 64 fs₀) 0 nan (omega arith) (omega arith))
-            ∙ ap (λ (j : ℕ). foundIn n us₀ fs₀ j) (sym (add-one i));
+            ∙ ap (λ (j : ℕ). found_in n us₀ fs₀ j) (sym (add-one i));
         queue =
-            queue-grown n us₁ i nodeRead (rw (length-set us (n + n + i) nodeRead) (omega arith)) k
-            ∙ ap (λ (l : List ℕ). take i l ++ (nodeRead ∷ [])) (set-high us (n + n + i) nodeRead n n (omega arith))
-            ∙ ap (λ (l : List ℕ). l ++ (nodeRead ∷ [])) inv.queue
-            ∙ ap (λ (v : ℕ). take i (area (found_at n) 64 us₀) ++ (v ∷ [])) node-is
+            queue_grown n us₁ i node_read (rw (length-set us (n + n + i) node_read) (omega arith)) k
+            ∙ ap (λ (l : List ℕ). take i l ++ (node_read ∷ [])) (set_high us (n + n + i) node_read n n (omega arith))
+            ∙ ap (λ (l : List ℕ). l ++ (node_read ∷ [])) inv.queue
+            ∙ ap (λ (v : ℕ). take i (area (found_at n) 64 us₀) ++ (v ∷ [])) node_is
             ∙ sym (take-suc (area (found_at n) 64 us₀) i 0 (omega arith))
             ∙ ap (λ (j : ℕ). take j (area (found_at n) 64 us₀)) (sym (add-one i));
-        kept = found-kept-on inv.kept (found-kept-on (best-stored n us fs i nodeRead distRead h) (queue-stored n us₁ fs₁ i nodeRead k));
+        kept = found-kept-on inv.kept (found-kept-on (best_stored n us fs i node_read dist_read h) (queue_stored n us₁ fs₁ i node_read k));
       }
 
-pub entering-end : {n : ℕ} {us₀ : List ℕ} {fs₀ : List Float} {us : List ℕ} {fs : List Float} {m : ℕ} → Room n us₀ fs₀ → m ≤ 64 → Entering n us₀ fs₀ us fs m → Entered n m us₀ fs₀ us fs
-entering-end {n} {us₀} {fs₀} {us} {fs} {m} room h inv =
+pub entering_end : {n : ℕ} {us₀ : List ℕ} {fs₀ : List Float} {us : List ℕ} {fs : List Float} {m : ℕ} → Room n us₀ fs₀ → m ≤ 64 → Entering n us₀ fs₀ us fs m → Entered n m us₀ fs₀ us fs
+entering_end {n} {us₀} {fs₀} {us} {fs} {m} room h inv =
     let x = room.floats in
     let fd = length-area (found_at n) 64 fs₀ (omega arith) in
     record {
       best = inv.best;
-      queue = inv.queue ∙ sym (nodesOf-entries m (area (found_at n) 64 us₀) (area (found_at n) 64 fs₀) (omega arith));
+      queue = inv.queue ∙ sym (nodes_of-entries m (area (found_at n) 64 us₀) (area (found_at n) 64 fs₀) (omega arith));
       kept = inv.kept;
     }

@@ -4,15 +4,15 @@ use Rattle.std.specs.Float.{nan}
 use Rattle.rules.specs.declared.Distance.{Distance}
 use Rattle.rules.specs.declared.Neighbor.{Neighbor}
 use Rattle.rules.specs.Loops.{through, has}
-use Rattle.rules.specs.Lists.{nodesOf}
-use Rattle.rules.specs.Rows.{emptyDistance}
-use Rattle.rules.specs.Search.{Walk, Going, on, unfitAt, mark, rootsFound, started}
+use Rattle.rules.specs.Lists.{nodes_of}
+use Rattle.rules.specs.Rows.{empty_distance}
+use Rattle.rules.specs.Search.{Walk, Going, on, unfit_at, mark, roots_found, started}
 use Rattle.expand.specs.declared.Counted.{Counted}
 use Rattle.expand.specs.declared.Counted.TheVariants.{Count, Unfit}
 use Rattle.buffers.specs.Area.{area}
 use Rattle.lists.specs.Ascending.{AllHoldable, Ascending}
-use Rattle.expand.specs.Areas.{found_at, seenIn, queueIn, bestIn, foundIn, BestSound, FoundKept}
-use Rattle.expand.specs.Queue.{QueueSound, walkIn}
+use Rattle.expand.specs.Areas.{found_at, seen_in, queue_in, best_in, found_in, BestSound, FoundKept}
+use Rattle.expand.specs.Queue.{QueueSound, walk_in}
 
 -- roots that row 7 passes
 pub record Roots (n : ℕ) (roots : List ℕ) : Type 0 where
@@ -23,49 +23,49 @@ pub record Roots (n : ℕ) (roots : List ℕ) : Type 0 where
 
 -- the distance beyond which no root enters
 unfoldable pub bound : ℕ → List Float → ℕ → ℕ → Float
-bound n fs len k = cond (ltb len k) emptyDistance (get_or fs (n + n + 64 + k - 1) nan)
+bound n fs len k = cond (ltb len k) empty_distance (get_or fs (n + n + 64 + k - 1) nan)
 
 -- the first k found are the first k of all
-unfoldable pub rootsIn : ℕ → ℕ → List ℕ → Going (List Neighbor) → List ℕ → List Float → Counted → Type 0
-rootsIn n k roots goal us fs (Count len) =
-    (sorted : List Neighbor) × (goal ≡ on sorted) × (length sorted ≡ length roots) × (take k sorted ≡ take k (foundIn n us fs len)) × AllHoldable (foundIn n us fs len)
-    × Ascending (foundIn n us fs len) × (len ≤ length roots)
-rootsIn n k roots goal us fs (Unfit v) = goal ≡ unfitAt v.0
+unfoldable pub RootsIn : ℕ → ℕ → List ℕ → Going (List Neighbor) → List ℕ → List Float → Counted → Type 0
+RootsIn n k roots goal us fs (Count len) =
+    (sorted : List Neighbor) × (goal ≡ on sorted) × (length sorted ≡ length roots) × (take k sorted ≡ take k (found_in n us fs len)) × AllHoldable (found_in n us fs len)
+    × Ascending (found_in n us fs len) × (len ≤ length roots)
+RootsIn n k roots goal us fs (Unfit v) = goal ≡ unfit_at v.0
 
 pub record RootsFound (apart : ℕ → Distance) (n k : ℕ) (roots us : List ℕ) (fs : List Float) (us' : List ℕ) (fs' : List Float) (r : Counted) : Type 0 where
-  pub found : rootsIn n k roots (rootsFound apart roots []) us' fs' r
+  pub found : RootsIn n k roots (roots_found apart roots []) us' fs' r
   pub words : length us' ≡ length us
   pub floats : length fs' ≡ length fs
 
 -- only the roots are seen
 pub record Marked (n : ℕ) (roots us us' : List ℕ) : Type 0 where
-  pub seen : seenIn n us' ≡ through mark roots (replicate n 0)
+  pub seen : seen_in n us' ≡ through mark roots (replicate n 0)
   pub nodes : area (found_at n) 64 us' ≡ area (found_at n) 64 us
   pub words : length us' ≡ length us
 
 -- the first m found stand in the best set and in the queue
 pub record Entered (n m : ℕ) (us : List ℕ) (fs : List Float) (us' : List ℕ) (fs' : List Float) : Type 0 where
-  pub best : bestIn n us' fs' m ≡ foundIn n us fs m
-  pub queue : take m (queueIn n us') ≡ nodesOf (foundIn n us fs m)
+  pub best : best_in n us' fs' m ≡ found_in n us fs m
+  pub queue : take m (queue_in n us') ≡ nodes_of (found_in n us fs m)
   pub kept : FoundKept n us fs us' fs'
 
-unfoldable pub startsIn : ℕ → ℕ → List ℕ → Going (List Neighbor) → List ℕ → List Float → Counted → Type 0
-startsIn n k roots goal us fs (Count m) =
-    (sorted : List Neighbor) × (goal ≡ on sorted) × (walkIn n us fs m m 0 (length roots) ≡ started n k roots sorted) × QueueSound n us m × (m ≡ min k (length roots))
+unfoldable pub StartsIn : ℕ → ℕ → List ℕ → Going (List Neighbor) → List ℕ → List Float → Counted → Type 0
+StartsIn n k roots goal us fs (Count m) =
+    (sorted : List Neighbor) × (goal ≡ on sorted) × (walk_in n us fs m m 0 (length roots) ≡ started n k roots sorted) × QueueSound n us m × (m ≡ min k (length roots))
     × BestSound n us fs m
-startsIn n k roots goal us fs (Unfit v) = goal ≡ unfitAt v.0
+StartsIn n k roots goal us fs (Unfit v) = goal ≡ unfit_at v.0
 
 pub record StartedIn (apart : ℕ → Distance) (n k : ℕ) (roots us : List ℕ) (fs : List Float) (us' : List ℕ) (fs' : List Float) (r : Counted) : Type 0 where
-  pub starts : startsIn n k roots (rootsFound apart roots []) us' fs' r
+  pub starts : StartsIn n k roots (roots_found apart roots []) us' fs' r
   pub words : length us' ≡ length us
   pub floats : length fs' ≡ length fs
 
 -- the walk ended: how many were taken, and the best set
-unfoldable pub endsIn : ℕ → ℕ → Going Walk → List ℕ → List Float → Counted → Type 0
-endsIn n m goal us fs (Count takings) = (s : Walk) × (goal ≡ on s) × (s.takings ≡ takings) × (s.best ≡ bestIn n us fs m)
-endsIn n m goal us fs (Unfit v) = goal ≡ unfitAt v.0
+unfoldable pub EndsIn : ℕ → ℕ → Going Walk → List ℕ → List Float → Counted → Type 0
+EndsIn n m goal us fs (Count takings) = (s : Walk) × (goal ≡ on s) × (s.takings ≡ takings) × (s.best ≡ best_in n us fs m)
+EndsIn n m goal us fs (Unfit v) = goal ≡ unfit_at v.0
 
 pub record WalkedIn (goal : Going Walk) (n m : ℕ) (us : List ℕ) (fs : List Float) (us' : List ℕ) (fs' : List Float) (r : Counted) : Type 0 where
-  pub ends : endsIn n m goal us' fs' r
+  pub ends : EndsIn n m goal us' fs' r
   pub words : length us' ≡ length us
   pub floats : length fs' ≡ length fs

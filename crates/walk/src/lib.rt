@@ -1,12 +1,12 @@
 // The walk of a search: its start from the roots, and the nodes of its queue expanded until none is left.
 ghost use Rattle.std.specs.Prelude.{◌≡◌, ℕ, ◌+◌, ◌≤◌, ◌<◌, min, length, get_or};
 ghost use Rattle.rules.specs.Loops.{through};
-ghost use Rattle.rules.specs.Distance.{queryApart};
-ghost use Rattle.rules.specs.Rows.{graphRow};
-ghost use Rattle.rules.specs.Search.{mark, walk, searchOf};
+ghost use Rattle.rules.specs.Distance.{query_apart};
+ghost use Rattle.rules.specs.Rows.{graph_row};
+ghost use Rattle.rules.specs.Search.{mark, walk, search_of};
 ghost use Rattle.expand.specs.Areas.{Room, BestSound};
 ghost use Rattle.expand.specs.Steps.{Lanes};
-ghost use Rattle.expand.specs.Queue.{Rows, QueueSound, walkIn};
+ghost use Rattle.expand.specs.Queue.{Rows, QueueSound, walk_in};
 ghost use Rattle.walk.specs.Walks.{Roots, bound, RootsFound, Marked, Entered, StartedIn, WalkedIn};
 
 use expand::Counted;
@@ -39,7 +39,7 @@ fn roots_found(
     requires room { Room n words.old floats.old }
     requires roots { Roots n roots.now }
     requires le_k { 1 ≤ k }
-    ensures { RootsFound (queryApart lanes.now dimension query.now) n k roots.now words.old floats.old words.new floats.new result }
+    ensures { RootsFound (query_apart lanes.now dimension query.now) n k roots.now words.old floats.old words.new floats.new result }
 {
     let mut len: usize = 0;
     let mut i: usize = 0;
@@ -123,7 +123,7 @@ fn start(
     requires room { Room n words.old floats.old }
     requires roots { Roots n roots.now }
     requires le_k { 1 ≤ k }
-    ensures { StartedIn (queryApart lanes.now dimension query.now) n k roots.now words.old floats.old words.new floats.new result }
+    ensures { StartedIn (query_apart lanes.now dimension query.now) n k roots.now words.old floats.old words.new floats.new result }
 {
     let r = roots_found(lanes, dimension, n, query, roots, k, words, floats);
     let Counted::Count(count) = r else {
@@ -153,7 +153,7 @@ fn go_on(
     requires queue_sound { QueueSound n words.old m }
     requires best_sound { BestSound n words.old floats.old m }
     requires le_m { (1 ≤ m) × (m ≤ 64) }
-    ensures { (worked : ℕ) → WalkedIn (walk (queryApart lanes.now dimension query.now) (graphRow n index_size graph.now) n (walkIn n words.old floats.old m m 0 worked)) n m words.old floats.old words.new floats.new result }
+    ensures { (worked : ℕ) → WalkedIn (walk (query_apart lanes.now dimension query.now) (graph_row n index_size graph.now) n (walk_in n words.old floats.old m m 0 worked)) n m words.old floats.old words.new floats.new result }
 {
     let mut takings: usize = 0;
     let mut tail = m;
@@ -188,7 +188,7 @@ pub fn walk(
     requires roots { Roots n roots.now }
     requires room { Room n words.old floats.old }
     requires le_k { 1 ≤ k }
-    ensures { WalkedIn (searchOf (queryApart lanes.now dimension query.now) (graphRow n index_size graph.now) n k roots.now) n (min k (length roots.now)) words.old floats.old words.new floats.new result }
+    ensures { WalkedIn (search_of (query_apart lanes.now dimension query.now) (graph_row n index_size graph.now) n k roots.now) n (min k (length roots.now)) words.old floats.old words.new floats.new result }
 {
     let r = start(lanes, dimension, n, query, roots, k, words, floats);
     let Counted::Count(m) = r else {

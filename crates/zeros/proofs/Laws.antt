@@ -20,9 +20,9 @@ bits-nan x e = rw e
 -- ---- words: at place i
 
 module _ (xs : List ℕ) (i : ℕ) where
-  pub zeros-turn : i < length xs → get_or xs i 0 ≡ 0 → zeros (drop (i + 1) xs) ≡ zeros (drop i xs)
+  pub zeros_turn : i < length xs → get_or xs i 0 ≡ 0 → zeros (drop (i + 1) xs) ≡ zeros (drop i xs)
   unfolding zeros
-  zeros-turn h e = rw (add-one, drop-cons xs i 0, e)
+  zeros_turn h e = rw (add-one, drop-cons xs i 0, e)
 
   pub zeros-not : i < length xs → (get_or xs i 0 ≡ 0 → ⊥) → zeros (drop i xs) ≡ false
   unfolding zeros
@@ -34,15 +34,15 @@ module _ (xs : List ℕ) (i : ℕ) where
 
 -- ---- floats: at place i
 
-abbrev pub bitsFrom : ℕ → List Float → List ℕ
-bitsFrom i xs = map (to_bits binary32) (drop i xs)
+abbrev pub bits_from : ℕ → List Float → List ℕ
+bits_from i xs = map (to_bits binary32) (drop i xs)
 
 module _ (xs : List Float) (i : ℕ) where
-  pub bits-turn : (b : Bool) → i < length xs → eqb (to_bits binary32 (get_or xs i nan)) 0 ≡ b → zeros (bitsFrom i xs) ≡ (b && zeros (bitsFrom (i + 1) xs))
+  pub bits_turn : (b : Bool) → i < length xs → eqb (to_bits binary32 (get_or xs i nan)) 0 ≡ b → zeros (bits_from i xs) ≡ (b && zeros (bits_from (i + 1) xs))
   unfolding zeros
-  bits-turn b h e = rw (add-one, drop-cons xs i nan, e)
+  bits_turn b h e = rw (add-one, drop-cons xs i nan, e)
 
-  pub bits-end : length xs ≤ i → zeros (bitsFrom i xs) ≡ true
+  pub bits-end : length xs ≤ i → zeros (bits_from i xs) ≡ true
   unfolding zeros
   bits-end h = ap (λ (l : List Float). zeros (map (to_bits binary32) l)) (drop_of_length-le xs {i = i} h)
 
@@ -53,9 +53,9 @@ module _ (p : ℕ → Bool) where
   unfolding all_below
   all_none = refl
 
-  pub all-turn : (i : ℕ) → all_below p i ≡ true → p i ≡ true → all_below p (i + 1) ≡ true
+  pub all_turn : (i : ℕ) → all_below p i ≡ true → p i ≡ true → all_below p (i + 1) ≡ true
   unfolding all_below
-  all-turn i h e = rw (add-one, h, e)
+  all_turn i h e = rw (add-one, h, e)
 
   pub all-at : (n i : ℕ) → all_below p n ≡ true → i < n → p i ≡ true
   unfolding all_below

@@ -8,50 +8,50 @@ use borrow.Author.Rules.{rules}
 use Rattle.backs.proofs.reverse.Statement.{statement}
 use Rattle.backs.proofs.reverse.Tie as tie
 
-back-members-requires : tie.Need-back-members-requires
-back-members-requires c κs = search rules
+back-members_requires : tie.Need-back-members-requires
+back-members_requires c κs = search rules
 
 sub-keep-back : tie.Need-overflow-sub-keep-back
 sub-keep-back c = search rules
 
-part-keep-back-start : tie.Need-slice-bounds-keep-back-start
-part-keep-back-start c = search rules
+part-keep-back_start : tie.Need-slice-bounds-keep-back-start
+part-keep-back_start c = search rules
 
 part-keep-back-end : tie.Need-slice-bounds-keep-back-end
 part-keep-back-end c = search rules
 
-keep-back-requires : tie.Need-keep-back-requires
-keep-back-requires c κs = search rules
+keep-back_requires : tie.Need-keep-back-requires
+keep-back_requires c κs = search rules
 
 sub-drawn-after : tie.Need-overflow-sub-drawn-after
 sub-drawn-after c = search rules
 
-part-drawn-after-start : tie.Need-slice-bounds-drawn-after-start
-part-drawn-after-start c = search rules
+part-drawn-after_start : tie.Need-slice-bounds-drawn-after-start
+part-drawn-after_start c = search rules
 
 part-drawn-after-end : tie.Need-slice-bounds-drawn-after-end
 part-drawn-after-end c = search rules
 
-drawn-after-requires : tie.Need-drawn-after-requires
-drawn-after-requires c κs = search rules
+drawn-after_requires : tie.Need-drawn-after-requires
+drawn-after_requires c κs = search rules
 
 sub-put-back : tie.Need-overflow-sub-put-back
 sub-put-back c = search rules
 
-part-put-back-start : tie.Need-slice-bounds-put-back-start
-part-put-back-start c = search rules
+part-put-back_start : tie.Need-slice-bounds-put-back-start
+part-put-back_start c = search rules
 
 part-put-back-end : tie.Need-slice-bounds-put-back-end
 part-put-back-end c = search rules
 
-put-back-requires : tie.Need-put-back-requires
-put-back-requires c κs = search rules
+put-back_requires : tie.Need-put-back-requires
+put-back_requires c κs = search rules
 
 same_length : tie.Need-same-length
 same_length c = search rules
 
-same-length-2 : tie.Need-same-length-2
-same-length-2 c = search rules
+same-length_2 : tie.Need-same-length-2
+same-length_2 c = search rules
 
 returns : tie.Need-returns
 returns c =
@@ -64,23 +64,23 @@ returns c =
     let f : kept.result - 0 ≡ kept.result = omega arith in
     reversed e f made (omega arith) kept.ensures c.before.before.before.before.before.before.drawn-after.ensures c.before.before.put_back.ensures
 
-pub reverse-spec : {M : Type 1} → statement M
-reverse-spec =
+pub reverse_spec : {M : Type 1} → statement M
+reverse_spec =
     tie.close
     (tie.spec
-    back-members-requires
+    back-members_requires
     sub-keep-back
-    part-keep-back-start
+    part-keep-back_start
     part-keep-back-end
-    keep-back-requires
+    keep-back_requires
     sub-drawn-after
-    part-drawn-after-start
+    part-drawn-after_start
     part-drawn-after-end
-    drawn-after-requires
+    drawn-after_requires
     sub-put-back
-    part-put-back-start
+    part-put-back_start
     part-put-back-end
-    put-back-requires
+    put-back_requires
     same_length
-    same-length-2
+    same-length_2
     returns)

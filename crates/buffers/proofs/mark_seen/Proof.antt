@@ -5,14 +5,14 @@ use borrow.Author.Rules.{rules}
 use Rattle.buffers.proofs.mark_seen.Statement.{statement}
 use Rattle.buffers.proofs.mark_seen.Tie as tie
 
-cast-at : tie.Need-overflow-cast-at
-cast-at c = search rules
+cast_at : tie.Need-overflow-cast-at
+cast_at c = search rules
 
 mul-flags : tie.Need-overflow-mul-flags
 mul-flags c = search rules
 
-slice-write-flags : tie.Need-slice-write-flags
-slice-write-flags c = search rules
+slice_write_flags : tie.Need-slice-write-flags
+slice_write_flags c = search rules
 
 same_length : tie.Need-same-length
 same_length c = search rules
@@ -21,5 +21,5 @@ returns : tie.Need-returns
 unfolding mark
 returns c = refl
 
-pub mark-seen-spec : {M : Type 1} → statement M
-mark-seen-spec = tie.close (tie.spec cast-at mul-flags slice-write-flags same_length returns)
+pub mark-seen_spec : {M : Type 1} → statement M
+mark-seen_spec = tie.close (tie.spec cast_at mul-flags slice_write_flags same_length returns)

@@ -3,24 +3,24 @@ use mathlib.Core.Path.{◌∙◌, ap}
 use lib.Ieee.{binary32, of_bits}
 use borrow.Author.Rules.{rules}
 use Rattle.params.specs.declared.SsgParams.{SsgParams}
-use Rattle.params.specs.Params.{withThreshold, withInitK, withIndexSize, withNeighborNeighborSize}
+use Rattle.params.specs.Params.{with_threshold, with_init_k, with_index_size, with_neighbor_neighbor_size}
 use Rattle.case_c.proofs.params_of.Statement.{statement}
 use Rattle.case_c.proofs.params_of.Tie as tie
 
-default-requires : tie.Need-default-requires
-default-requires c κs = search rules
+default_requires : tie.Need-default-requires
+default_requires c κs = search rules
 
-init-k-requires : tie.Need-init-k-requires
-init-k-requires c κs = search rules
+init_k_requires : tie.Need-init-k-requires
+init_k_requires c κs = search rules
 
-index-size-requires : tie.Need-index-size-requires
-index-size-requires c κs = search rules
+index_size_requires : tie.Need-index-size-requires
+index_size_requires c κs = search rules
 
-neighbor-neighbor-size-requires : tie.Need-neighbor-neighbor-size-requires
-neighbor-neighbor-size-requires c κs = search rules
+neighbor-neighbor-size_requires : tie.Need-neighbor-neighbor-size-requires
+neighbor-neighbor-size_requires c κs = search rules
 
-threshold-requires : tie.Need-threshold-requires
-threshold-requires c κs = search rules
+threshold_requires : tie.Need-threshold-requires
+threshold_requires c κs = search rules
 
 returns : tie.Need-returns
 returns c =
@@ -29,18 +29,18 @@ returns c =
     let k = size.before in
     let start = k.before.before in
     c.threshold.ensures
-    ∙ ap (λ (p : SsgParams). withThreshold p (of_bits binary32 0x3F000000))
-    (hops.neighbor-neighbor-size.ensures
-    ∙ ap (λ (p : SsgParams). withNeighborNeighborSize p 10)
-    (size.index-size.ensures ∙ ap (λ (p : SsgParams). withIndexSize p start.args.index-size) (k.init-k.ensures ∙ ap (λ (p : SsgParams). withInitK p 2) k.before.default.ensures)))
+    ∙ ap (λ (p : SsgParams). with_threshold p (of_bits binary32 0x3F000000))
+    (hops.neighbor_neighbor_size.ensures
+    ∙ ap (λ (p : SsgParams). with_neighbor_neighbor_size p 10)
+    (size.index_size.ensures ∙ ap (λ (p : SsgParams). with_index_size p start.args.index_size) (k.init_k.ensures ∙ ap (λ (p : SsgParams). with_init_k p 2) k.before.default.ensures)))
 
-pub params-of-spec : {M : Type 1} → statement M
-params-of-spec =
+pub params_of_spec : {M : Type 1} → statement M
+params_of_spec =
     tie.close
     (tie.spec
-    default-requires
-    init-k-requires
-    index-size-requires
-    neighbor-neighbor-size-requires
-    threshold-requires
+    default_requires
+    init_k_requires
+    index_size_requires
+    neighbor-neighbor-size_requires
+    threshold_requires
     returns)

@@ -8,29 +8,29 @@ returns : tie.Need-returns
 unfolding after
 returns c = simp (eq-eqb _ _ c.before.if1.true, eq-eqb _ _ c.if2.true)
 
-returns-2 : tie.Need-returns-2
+returns_2 : tie.Need-returns-2
 unfolding after
-returns-2 c = simp (eq-eqb _ _ c.before.if1.true, ne_eqb _ _ c.if2.false)
+returns_2 c = simp (eq-eqb _ _ c.before.if1.true, ne_eqb _ _ c.if2.false)
 
-returns-3 : tie.Need-returns-3
+returns_3 : tie.Need-returns-3
 unfolding after
-returns-3 c = simp (ne_eqb _ _ c.before.if1.false, eq-eqb _ _ c.if3.true)
+returns_3 c = simp (ne_eqb _ _ c.before.if1.false, eq-eqb _ _ c.if3.true)
 
-separates-requires : tie.Need-separates-requires
-separates-requires c κs = search rules
+separates_requires : tie.Need-separates-requires
+separates_requires c κs = search rules
 
-returns-4 : tie.Need-returns-4
+returns_4 : tie.Need-returns-4
 unfolding after
-returns-4 c =
+returns_4 c =
     let w = c.before.before in
     simp (ne_eqb _ _ w.before.if1.false, ne_eqb _ _ w.if3.false, sym c.before.separates.ensures, c.if4.true)
 
-returns-5 : tie.Need-returns-5
+returns_5 : tie.Need-returns-5
 unfolding after
-returns-5 c =
+returns_5 c =
     let w = c.before.before in
     simp (ne_eqb _ _ w.before.if1.false, ne_eqb _ _ w.if3.false, sym c.before.separates.ensures, c.if4.false)
 
-pub after-spec : {M : Type 1} → statement M
-after-spec =
-    tie.close (tie.spec returns returns-2 returns-3 separates-requires returns-4 returns-5)
+pub after_spec : {M : Type 1} → statement M
+after_spec =
+    tie.close (tie.spec returns returns_2 returns_3 separates_requires returns_4 returns_5)

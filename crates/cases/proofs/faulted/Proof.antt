@@ -8,9 +8,9 @@ returns : tie.Need-returns
 unfolding faulted
 returns c = simp (eq-eqb _ _ c.if1.true)
 
-returns-2 : tie.Need-returns-2
+returns_2 : tie.Need-returns-2
 unfolding faulted
-returns-2 c = simp (ne_eqb _ _ c.if1.false)
+returns_2 c = simp (ne_eqb _ _ c.if1.false)
 
-pub faulted-spec : {M : Type 1} → statement M
-faulted-spec = tie.close (tie.spec returns returns-2)
+pub faulted_spec : {M : Type 1} → statement M
+faulted_spec = tie.close (tie.spec returns returns_2)

@@ -10,12 +10,12 @@ returns : tie.Need-returns
 unfolding float_of
 returns c = rw (lt-ltb _ _ c.if1.true)
 
-float-from-bits-result : tie.Need-float-from-bits-result
-float-from-bits-result c = subst (λ (b : Bool). T (not b)) (sym (nan_bits_above binary32 _ ∙ le-ltb _ _ c.if1.false)) tt
+float_from-bits_result : tie.Need-float-from-bits-result
+float_from-bits_result c = subst (λ (b : Bool). T (not b)) (sym (nan_bits_above binary32 _ ∙ le-ltb _ _ c.if1.false)) tt
 
-returns-2 : tie.Need-returns-2
+returns_2 : tie.Need-returns-2
 unfolding float_of
-returns-2 c = rw (le-ltb _ _ c.if1.false)
+returns_2 c = rw (le-ltb _ _ c.if1.false)
 
-pub float-spec : {M : Type 1} → statement M
-float-spec = tie.close (tie.spec returns float-from-bits-result returns-2)
+pub float_spec : {M : Type 1} → statement M
+float_spec = tie.close (tie.spec returns float_from-bits_result returns_2)

@@ -4,11 +4,11 @@ use Rattle.cases.specs.Text.{word_at, word_of}
 use Rattle.cases.proofs.read_word.Statement.{statement}
 use Rattle.cases.proofs.read_word.Tie as tie
 
-next-number-requires : tie.Need-next-number-requires
-next-number-requires c κs = search rules
+next-number_requires : tie.Need-next-number-requires
+next-number_requires c κs = search rules
 
-enum-known-t : tie.Need-enum-known-t
-enum-known-t c = search rules
+enum_known_t : tie.Need-enum-known-t
+enum_known_t c = search rules
 
 returns : tie.Need-returns
 unfolding word_at word_of
@@ -17,51 +17,51 @@ returns c = simp (eq-eqb _ _ c.before.before.before.before.if1.true, sym c.befor
 enum_told : tie.Need-enum-told
 enum_told c = search rules
 
-faulted-requires : tie.Need-faulted-requires
-faulted-requires c κs = search rules
+faulted_requires : tie.Need-faulted-requires
+faulted_requires c κs = search rules
 
-returns-2 : tie.Need-returns-2
+returns_2 : tie.Need-returns-2
 unfolding word_at word_of
-returns-2 c = simp (eq-eqb _ _ c.before.before.before.before.if1.true, sym c.before.before.before.next-number.ensures, c.before.enum_told.given.1, c.faulted.ensures)
+returns_2 c = simp (eq-eqb _ _ c.before.before.before.before.if1.true, sym c.before.before.before.next-number.ensures, c.before.enum_told.given.1, c.faulted.ensures)
 
-enum-told-2 : tie.Need-enum-told-2
-enum-told-2 c = search rules
+enum_told_2 : tie.Need-enum-told-2
+enum_told_2 c = search rules
 
-faulted-requires-2 : tie.Need-faulted-requires-2
-faulted-requires-2 c κs = search rules
+faulted_requires_2 : tie.Need-faulted-requires-2
+faulted_requires_2 c κs = search rules
 
-returns-3 : tie.Need-returns-3
+returns_3 : tie.Need-returns-3
 unfolding word_at word_of
-returns-3 c = simp (eq-eqb _ _ c.before.before.before.before.if1.true, sym c.before.before.before.next-number.ensures, c.before.enum-told2.given.1, c.faulted2.ensures)
+returns_3 c = simp (eq-eqb _ _ c.before.before.before.before.if1.true, sym c.before.before.before.next-number.ensures, c.before.enum-told2.given.1, c.faulted2.ensures)
 
-enum-told-3 : tie.Need-enum-told-3
-enum-told-3 c = search rules
+enum_told_3 : tie.Need-enum-told-3
+enum_told_3 c = search rules
 
-faulted-requires-3 : tie.Need-faulted-requires-3
-faulted-requires-3 c κs = search rules
+faulted_requires_3 : tie.Need-faulted-requires-3
+faulted_requires_3 c κs = search rules
 
-returns-4 : tie.Need-returns-4
+returns_4 : tie.Need-returns-4
 unfolding word_at word_of
-returns-4 c = simp (eq-eqb _ _ c.before.before.before.before.if1.true, sym c.before.before.before.next-number.ensures, c.before.enum-told3.given.1, c.faulted3.ensures)
+returns_4 c = simp (eq-eqb _ _ c.before.before.before.before.if1.true, sym c.before.before.before.next-number.ensures, c.before.enum-told3.given.1, c.faulted3.ensures)
 
-returns-5 : tie.Need-returns-5
+returns_5 : tie.Need-returns-5
 unfolding word_at word_of
-returns-5 c = simp (ne_eqb _ _ c.if1.false)
+returns_5 c = simp (ne_eqb _ _ c.if1.false)
 
-pub read-word-spec : {M : Type 1} → statement M
-read-word-spec =
+pub read-word_spec : {M : Type 1} → statement M
+read-word_spec =
     tie.close
     (tie.spec
-    next-number-requires
-    enum-known-t
+    next-number_requires
+    enum_known_t
     returns
     enum_told
-    faulted-requires
-    returns-2
-    enum-told-2
-    faulted-requires-2
-    returns-3
-    enum-told-3
-    faulted-requires-3
-    returns-4
-    returns-5)
+    faulted_requires
+    returns_2
+    enum_told_2
+    faulted_requires_2
+    returns_3
+    enum_told_3
+    faulted_requires_3
+    returns_4
+    returns_5)

@@ -9,9 +9,9 @@ returns : tie.Need-returns
 unfolding within
 returns c = simp (lt-leb _ _ c.if1.true)
 
-returns-2 : tie.Need-returns-2
+returns_2 : tie.Need-returns-2
 unfolding within
-returns-2 c = simp (le-leb _ _ c.if1.false)
+returns_2 c = simp (le-leb _ _ c.if1.false)
 
-pub within-spec : {M : Type 1} → statement M
-within-spec = tie.close (tie.spec returns returns-2)
+pub within_spec : {M : Type 1} → statement M
+within_spec = tie.close (tie.spec returns returns_2)

@@ -15,23 +15,23 @@ use borrow.Author.Rules.{rules}
 use Rattle.exact.proofs.distances_to.Statement.{statement}
 use Rattle.exact.proofs.distances_to.Tie as tie
 
-abbrev invariant-loop : tie.invariant-loop
-invariant-loop lanes dimension n q nodes len dists₀ i₀ dists i = (i ≤ len) × Written (map (between lanes dimension q.0) (take len nodes)) dists₀ dists i
+abbrev invariant_loop : tie.invariant-loop
+invariant_loop lanes dimension n q nodes len dists₀ i₀ dists i = (i ≤ len) × Written (map (between lanes dimension q.0) (take len nodes)) dists₀ dists i
 
-abbrev decreases-loop : tie.decreases-loop
-decreases-loop lanes dimension n q nodes len dists₀ i₀ dists i = len - i
+abbrev decreases_loop : tie.decreases-loop
+decreases_loop lanes dimension n q nodes len dists₀ i₀ dists i = len - i
 
-loop-holds : tie.Need-loop-init invariant-loop decreases-loop
-loop-holds c = (search rules, written_none _ _)
+loop_holds : tie.Need-loop-init invariant_loop decreases_loop
+loop_holds c = (search rules, written_none _ _)
 
-mul-t11 : tie.Need-overflow-mul-t11 invariant-loop decreases-loop
-mul-t11 c = search rules
+mul_t11 : tie.Need-overflow-mul-t11 invariant_loop decreases_loop
+mul_t11 c = search rules
 
-shared-slice-read-t13 : tie.Need-shared-slice-read-t13 invariant-loop decreases-loop
-shared-slice-read-t13 c = search rules
+shared_slice_read_t13 : tie.Need-shared-slice-read-t13 invariant_loop decreases_loop
+shared_slice_read_t13 c = search rules
 
-between-requires : tie.Need-between-requires invariant-loop decreases-loop
-between-requires c κs =
+between_requires : tie.Need-between-requires invariant_loop decreases_loop
+between_requires c κs =
     let at = c.before.before in
     let start = at.before.before.before.before in
     let args = start.args in
@@ -41,50 +41,50 @@ between-requires c κs =
     let same = get_or-take args.len args.nodes.now at.loop.i 0 (search rules) in
     (room _ _ _ _ pre.0.0 pre.0.1, room _ _ _ _ pre.0.0 (omega arith))
 
-mul-dists : tie.Need-overflow-mul-dists invariant-loop decreases-loop
+mul-dists : tie.Need-overflow-mul-dists invariant_loop decreases_loop
 mul-dists c = let long = c.before.before.before.loop.invariant.1.long in search rules
 
-slice-write-dists : tie.Need-slice-write-dists invariant-loop decreases-loop
-slice-write-dists c = let long = c.before.before.before.loop.invariant.1.long in omega arith
+slice_write_dists : tie.Need-slice-write-dists invariant_loop decreases_loop
+slice_write_dists c = let long = c.before.before.before.loop.invariant.1.long in omega arith
 
-add-i : tie.Need-overflow-add-i invariant-loop decreases-loop
-add-i c = search rules
+add_i : tie.Need-overflow-add-i invariant_loop decreases_loop
+add_i c = search rules
 
-loop-less : tie.Need-loop-smaller invariant-loop decreases-loop
-loop-less c = search rules
+loop_less : tie.Need-loop-smaller invariant_loop decreases_loop
+loop_less c = search rules
 
-loop-again : tie.Need-loop-preserved invariant-loop decreases-loop
-loop-again c =
+loop_again : tie.Need-loop-preserved invariant_loop decreases_loop
+loop_again c =
     let at = c.before.before.before in
     let start = at.before.before.before.before in
     let args = start.args in
     let long = length_some (between args.lanes.now args.dimension args.q.0) args.nodes.now args.len start.requires.1.0 in
     (search rules, written-more _ _ at.loop.invariant.1 (omega arith) (omega arith) (get_d_some _ _ _ start.requires.1.0 _ 0 (search rules) ∙ sym c.between.ensures))
 
-same_length : tie.Need-same-length invariant-loop decreases-loop
+same_length : tie.Need-same-length invariant_loop decreases_loop
 same_length c = c.before.loop.invariant.1.long
 
-returns : tie.Need-returns invariant-loop decreases-loop
+returns : tie.Need-returns invariant_loop decreases_loop
 returns c =
     let at = c.before in
     let args = at.before.before.before.before.args in
     let e : at.loop.i ≡ args.len = omega arith in
     at.loop.invariant.1.list ∙ ap (λ (i : ℕ). over i (map (between args.lanes.now args.dimension args.q.0) (take args.len args.nodes.now)) args.dists.now) e
 
-pub distances-to-spec : {M : Type 1} → statement M
-distances-to-spec =
+pub distances-to_spec : {M : Type 1} → statement M
+distances-to_spec =
     tie.close
     (tie.spec
-    invariant-loop
-    decreases-loop
-    loop-holds
-    mul-t11
-    shared-slice-read-t13
-    between-requires
+    invariant_loop
+    decreases_loop
+    loop_holds
+    mul_t11
+    shared_slice_read_t13
+    between_requires
     mul-dists
-    slice-write-dists
-    add-i
-    loop-less
-    loop-again
+    slice_write_dists
+    add_i
+    loop_less
+    loop_again
     same_length
     returns)

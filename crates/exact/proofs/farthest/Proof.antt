@@ -9,19 +9,19 @@ returns : tie.Need-returns
 unfolding farthest
 returns c = rw (lt-ltb _ _ c.if1.true)
 
-sub-result : tie.Need-overflow-sub-result
-sub-result c = search rules
+sub_result : tie.Need-overflow-sub-result
+sub_result c = search rules
 
-mul-result : tie.Need-overflow-mul-result
-mul-result c = search rules
+mul_result : tie.Need-overflow-mul-result
+mul_result c = search rules
 
-shared-slice-read-result : tie.Need-shared-slice-read-result
-shared-slice-read-result c = search rules
+shared_slice_read_result : tie.Need-shared-slice-read-result
+shared_slice_read_result c = search rules
 
-returns-2 : tie.Need-returns-2
+returns_2 : tie.Need-returns-2
 unfolding farthest
-returns-2 c = rw (le-ltb _ _ c.before.if1.false)
+returns_2 c = rw (le-ltb _ _ c.before.if1.false)
 
-pub farthest-spec : {M : Type 1} → statement M
-farthest-spec =
-    tie.close (tie.spec returns sub-result mul-result shared-slice-read-result returns-2)
+pub farthest_spec : {M : Type 1} → statement M
+farthest_spec =
+    tie.close (tie.spec returns sub_result mul_result shared_slice_read_result returns_2)

@@ -8,19 +8,19 @@ returns : tie.Need-returns
 unfolding ended
 returns c = rw (ne_eqb _ _ c.if1.true)
 
-next-word-requires : tie.Need-next-word-requires
-next-word-requires c κs = search rules
+next-word_requires : tie.Need-next-word-requires
+next-word_requires c κs = search rules
 
-returns-2 : tie.Need-returns-2
+returns_2 : tie.Need-returns-2
 unfolding ended
-returns-2 c = rw (eq-eqb _ _ c.before.before.before.if1.false, sym c.before.before.next_word.ensures, eq-eqb _ _ c.if2.true)
+returns_2 c = rw (eq-eqb _ _ c.before.before.before.if1.false, sym c.before.before.next_word.ensures, eq-eqb _ _ c.if2.true)
 
-read-to-requires : tie.Need-read-to-requires
-read-to-requires c κs = search rules
+read-to_requires : tie.Need-read-to-requires
+read-to_requires c κs = search rules
 
-returns-3 : tie.Need-returns-3
+returns_3 : tie.Need-returns-3
 unfolding ended
-returns-3 c = rw (eq-eqb _ _ c.before.before.before.before.if1.false, sym c.before.before.before.next_word.ensures, ne_eqb _ _ c.before.if2.false, c.read-to.ensures)
+returns_3 c = rw (eq-eqb _ _ c.before.before.before.before.if1.false, sym c.before.before.before.next_word.ensures, ne_eqb _ _ c.before.if2.false, c.read-to.ensures)
 
-pub ended-spec : {M : Type 1} → statement M
-ended-spec = tie.close (tie.spec returns next-word-requires returns-2 read-to-requires returns-3)
+pub ended_spec : {M : Type 1} → statement M
+ended_spec = tie.close (tie.spec returns next-word_requires returns_2 read-to_requires returns_3)

@@ -11,26 +11,26 @@ use borrow.Author.Rules.{rules}
 use Rattle.halves.proofs.next_flags.Statement.{statement}
 use Rattle.halves.proofs.next_flags.Tie as tie
 
-look-flag-requires : tie.Need-look-flag-requires
-look-flag-requires c κs = search rules
+look_flag_requires : tie.Need-look-flag-requires
+look_flag_requires c κs = search rules
 
 returns : tie.Need-returns
 returns c = flags-looked _ _ _ _ _ _ _ _ c.before.if1.true c.look-flag.ensures
 
-returns-2 : tie.Need-returns-2
-returns-2 c = flags-pushed _ _ _ _ _ _ _ c.if2.true c.before.before.before.before.requires.1.1
+returns_2 : tie.Need-returns-2
+returns_2 c = flags-pushed _ _ _ _ _ _ _ c.if2.true c.before.before.before.before.requires.1.1
 
-measure-flag-requires : tie.Need-measure-flag-requires
-measure-flag-requires c κs = search rules
+measure_flag_requires : tie.Need-measure-flag-requires
+measure_flag_requires c κs = search rules
 
-returns-3 : tie.Need-returns-3
-returns-3 c =
+returns_3 : tie.Need-returns-3
+returns_3 c =
     let p = c.before.before.before.before.before.before.requires.0 in
     let a = c.before.before.before.before.before.before.args in
     flags-measured _ _ _ _ _ _ _ _ c.before.if3.true c.before.before.before.before.before.before.requires.1.1 (c.measure-flag.ensures ∙ ap (λ (i : ℕ). bit (eqb a.taken 1 && ltb a.k i)) (sym (length-entries _ _ _ p.2 p.3)))
 
-returns-4 : tie.Need-returns-4
-returns-4 c =
+returns_4 : tie.Need-returns-4
+returns_4 c =
     let q = c.before.before.before.before.before.requires.1 in
     let few = q.0 in
     let one = c.before.before.if1.false in
@@ -39,7 +39,7 @@ returns-4 c =
     let s : c.before.before.before.before.before.args.steps ≡ 3 = omega arith in
     flags-popped _ _ _ _ _ _ _ s q.1 q.2
 
-pub next-flags-spec : {M : Type 1} → statement M
-next-flags-spec =
+pub next-flags_spec : {M : Type 1} → statement M
+next-flags_spec =
     tie.close
-    (tie.spec look-flag-requires returns returns-2 measure-flag-requires returns-3 returns-4)
+    (tie.spec look_flag_requires returns returns_2 measure_flag_requires returns_3 returns_4)

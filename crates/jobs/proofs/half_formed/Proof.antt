@@ -6,29 +6,29 @@ use native.Mathlib.Omega.{arith}
 use borrow.Author.Tests.{ne_eqb}
 use lib.Dec.{eqb}
 use Rattle.rules.proofs.Tests.{and-false}
-use Rattle.jobs.specs.Jobs.{halfFormed}
-use Rattle.jobs.proofs.Halves.{half-fresh, half-early, half-flag, half-equal, half-looked, half-measured}
+use Rattle.jobs.specs.Jobs.{half_formed}
+use Rattle.jobs.proofs.Halves.{half_fresh, half_early, half_flag, half_equal, half_looked, half_measured}
 use Rattle.jobs.proofs.half_formed.Statement.{statement}
 use Rattle.jobs.proofs.half_formed.Tie as tie
 
 returns : tie.Need-returns
 returns c =
     let a = c.before.before.args in
-    sym (ap (λ s. halfFormed a.equal s a.taken a.longer) c.before.if1.true ∙ half-early _ _ _ c.if2.true)
+    sym (ap (λ s. half_formed a.equal s a.taken a.longer) c.before.if1.true ∙ half_early _ _ _ c.if2.true)
 
-returns-2 : tie.Need-returns-2
-returns-2 c =
+returns_2 : tie.Need-returns-2
+returns_2 c =
     let a = c.before.before.args in
-    sym (ap (λ s. halfFormed a.equal s a.taken a.longer) c.before.if1.true ∙ half-fresh _ _ _ c.if2.false)
+    sym (ap (λ s. half_formed a.equal s a.taken a.longer) c.before.if1.true ∙ half_fresh _ _ _ c.if2.false)
 
-returns-3 : tie.Need-returns-3
-returns-3 c = let some = c.before.if1.false in sym (half-flag _ _ _ _ (omega arith) c.if3.true)
+returns_3 : tie.Need-returns-3
+returns_3 c = let some = c.before.if1.false in sym (half_flag _ _ _ _ (omega arith) c.if3.true)
 
-returns-4 : tie.Need-returns-4
-returns-4 c =
+returns_4 : tie.Need-returns-4
+returns_4 c =
     let a = c.before.before.before.before.args in
     let some = c.before.before.before.if1.false in
-    sym (ap (λ e. halfFormed e a.steps a.taken a.longer) c.before.if4.true ∙ ap (λ t. halfFormed _ a.steps t a.longer) c.if5.true ∙ half-equal _ _ (omega arith))
+    sym (ap (λ e. half_formed e a.steps a.taken a.longer) c.before.if4.true ∙ ap (λ t. half_formed _ a.steps t a.longer) c.if5.true ∙ half_equal _ _ (omega arith))
 
 -- no report where the nodes are equal
 free : (c : tie.Joined4) → (c.before.before.before.args.equal && eqb c.before.before.before.args.taken 1) ≡ false
@@ -36,11 +36,11 @@ free c =
     ⊎_elim (λ w. rw (ne_eqb c.before.before.before.args.taken 1 w.1.left) (and-false c.before.before.before.args.equal)) (λ w. rw w.left)
     c.if4.branch
 
-returns-5 : tie.Need-returns-5
-returns-5 c = let some = c.before.before.before.if1.false in sym (half-looked _ _ _ _ (omega arith) c.if6.true c.before.before.if3.false (free c.before))
+returns_5 : tie.Need-returns-5
+returns_5 c = let some = c.before.before.before.if1.false in sym (half_looked _ _ _ _ (omega arith) c.if6.true c.before.before.if3.false (free c.before))
 
-returns-6 : tie.Need-returns-6
-returns-6 c = let some = c.before.before.before.if1.false in sym (half-measured _ _ _ _ c.if6.false c.before.before.if3.false (free c.before))
+returns_6 : tie.Need-returns-6
+returns_6 c = let some = c.before.before.before.if1.false in sym (half_measured _ _ _ _ c.if6.false c.before.before.if3.false (free c.before))
 
-pub half-formed-spec : {M : Type 1} → statement M
-half-formed-spec = tie.close (tie.spec returns returns-2 returns-3 returns-4 returns-5 returns-6)
+pub half_formed_spec : {M : Type 1} → statement M
+half_formed_spec = tie.close (tie.spec returns returns_2 returns_3 returns_4 returns_5 returns_6)

@@ -9,11 +9,11 @@ use Rattle.kernels.proofs.held.Tie as tie
 returns : tie.Need-returns
 returns c = record { is = sym (held_below _ _ c.if1.true); below = search rules }
 
-sub-result : tie.Need-overflow-sub-result
-sub-result c = search rules
+sub_result : tie.Need-overflow-sub-result
+sub_result c = search rules
 
-returns-2 : tie.Need-returns-2
-returns-2 c = record { is = sym (held-behind _ _ c.if1.false); below = omega arith }
+returns_2 : tie.Need-returns-2
+returns_2 c = record { is = sym (held-behind _ _ c.if1.false); below = omega arith }
 
 pub held_spec : {M : Type 1} → statement M
-held_spec = tie.close (tie.spec returns sub-result returns-2)
+held_spec = tie.close (tie.spec returns sub_result returns_2)

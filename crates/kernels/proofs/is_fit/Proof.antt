@@ -9,12 +9,12 @@ use Rattle.kernels.proofs.is_fit.Tie as tie
 returns : tie.Need-returns
 returns c = nan-unfit _ c.if1.true
 
-float-to-bits-result : tie.Need-float-to-bits-result
-float-to-bits-result c = number _ c.if1.false
+float_to-bits_result : tie.Need-float-to-bits-result
+float_to-bits_result c = number _ c.if1.false
 
-returns-2 : tie.Need-returns-2
+returns_2 : tie.Need-returns-2
 unfolding fit
-returns-2 c = refl
+returns_2 c = refl
 
-pub is-fit-spec : {M : Type 1} → statement M
-is-fit-spec = tie.close (tie.spec returns float-to-bits-result returns-2)
+pub is-fit_spec : {M : Type 1} → statement M
+is-fit_spec = tie.close (tie.spec returns float_to-bits_result returns_2)

@@ -8,5 +8,5 @@ returns : tie.Need-returns
 unfolding lane
 returns c = refl
 
-pub lane-spec : {M : Type 1} → statement M
-lane-spec = tie.close (tie.spec returns)
+pub lane_spec : {M : Type 1} → statement M
+lane_spec = tie.close (tie.spec returns)

@@ -1,62 +1,62 @@
 -- `kinds::relay` meets its contract. Assumes nothing.
-use Rattle.kinds.specs.Kinds.{behindRelay}
+use Rattle.kinds.specs.Kinds.{behind_relay}
 use borrow.Author.Rules.{rules}
 use Rattle.kinds.proofs.relay.Statement.{statement}
 use Rattle.kinds.proofs.relay.Tie as tie
 
-read-size-requires : tie.Need-read-size-requires
-read-size-requires c κs = search rules
+read-size_requires : tie.Need-read-size-requires
+read-size_requires c κs = search rules
 
-read-size-requires-2 : tie.Need-read-size-requires-2
-read-size-requires-2 c κs = search rules
+read-size_requires_2 : tie.Need-read-size-requires-2
+read-size_requires_2 c κs = search rules
 
-read-size-requires-3 : tie.Need-read-size-requires-3
-read-size-requires-3 c κs = search rules
+read-size_requires_3 : tie.Need-read-size-requires-3
+read-size_requires_3 c κs = search rules
 
-area-requires : tie.Need-area-requires
-area-requires c κs = search rules
+area_requires : tie.Need-area-requires
+area_requires c κs = search rules
 
 mul-lists : tie.Need-overflow-mul-lists
 mul-lists c = search rules
 
-area-requires-2 : tie.Need-area-requires-2
-area-requires-2 c κs = search rules
+area_requires_2 : tie.Need-area-requires-2
+area_requires_2 c κs = search rules
 
-add-pass : tie.Need-overflow-add-pass
-add-pass c = search rules
+add_pass : tie.Need-overflow-add-pass
+add_pass c = search rules
 
-pass-requires : tie.Need-pass-requires
-pass-requires c κs = search rules
+pass_requires : tie.Need-pass-requires
+pass_requires c κs = search rules
 
-read-size-requires-4 : tie.Need-read-size-requires-4
-read-size-requires-4 c κs = search rules
+read-size_requires_4 : tie.Need-read-size-requires-4
+read-size_requires_4 c κs = search rules
 
-mul-pass : tie.Need-overflow-mul-pass
-mul-pass c = search rules
+mul_pass : tie.Need-overflow-mul-pass
+mul_pass c = search rules
 
-pass-requires-2 : tie.Need-pass-requires-2
-pass-requires-2 c κs = search rules
+pass_requires_2 : tie.Need-pass-requires-2
+pass_requires_2 c κs = search rules
 
-read-size-requires-5 : tie.Need-read-size-requires-5
-read-size-requires-5 c κs = search rules
+read-size_requires_5 : tie.Need-read-size-requires-5
+read-size_requires_5 c κs = search rules
 
-pass-requires-3 : tie.Need-pass-requires-3
-pass-requires-3 c κs = search rules
+pass_requires_3 : tie.Need-pass-requires-3
+pass_requires_3 c κs = search rules
 
-moves-requires : tie.Need-moves-requires
-moves-requires c κs = search rules
+moves_requires : tie.Need-moves-requires
+moves_requires c κs = search rules
 
-mul-pass-2 : tie.Need-overflow-mul-pass-2
-mul-pass-2 c = search rules
+mul_pass_2 : tie.Need-overflow-mul-pass-2
+mul_pass_2 c = search rules
 
-add-pass-2 : tie.Need-overflow-add-pass-2
-add-pass-2 c = let bounded = c.before.before.before.before.before.before.before.before.before.area.ensures.1 in search rules
+add_pass_2 : tie.Need-overflow-add-pass-2
+add_pass_2 c = let bounded = c.before.before.before.before.before.before.before.before.before.area.ensures.1 in search rules
 
-pass-requires-4 : tie.Need-pass-requires-4
-pass-requires-4 c κs = search rules
+pass_requires_4 : tie.Need-pass-requires-4
+pass_requires_4 c κs = search rules
 
 returns : tie.Need-returns
-unfolding behindRelay
+unfolding behind_relay
 returns c =
     let s13 = c.before in
     let s12 = s13.before in
@@ -73,25 +73,25 @@ returns c =
     let s1 = s2.before in
     rw (← s1.read-size.ensures.0, ← s2.read-size2.ensures.0, ← s3.read-size3.ensures.0, ← s4.area.ensures.0, ← s5.area2.ensures.0, ← s6.pass.ensures, ← s7.read-size4.ensures.0, ← s9.pass2.ensures, ← s10.read-size5.ensures.0, ← s11.pass3.ensures, ← s12.moves.ensures, ← c.pass4.ensures)
 
-pub relay-spec : {M : Type 1} → statement M
-relay-spec =
+pub relay_spec : {M : Type 1} → statement M
+relay_spec =
     tie.close
     (tie.spec
-    read-size-requires
-    read-size-requires-2
-    read-size-requires-3
-    area-requires
+    read-size_requires
+    read-size_requires_2
+    read-size_requires_3
+    area_requires
     mul-lists
-    area-requires-2
-    add-pass
-    pass-requires
-    read-size-requires-4
-    mul-pass
-    pass-requires-2
-    read-size-requires-5
-    pass-requires-3
-    moves-requires
-    mul-pass-2
-    add-pass-2
-    pass-requires-4
+    area_requires_2
+    add_pass
+    pass_requires
+    read-size_requires_4
+    mul_pass
+    pass_requires_2
+    read-size_requires_5
+    pass_requires_3
+    moves_requires
+    mul_pass_2
+    add_pass_2
+    pass_requires_4
     returns)

@@ -1,53 +1,53 @@
 -- `kinds::search` meets its contract. Assumes nothing.
-use Rattle.kinds.specs.Kinds.{behindSearch}
+use Rattle.kinds.specs.Kinds.{behind_search}
 use borrow.Author.Rules.{rules}
 use Rattle.kinds.proofs.search.Statement.{statement}
 use Rattle.kinds.proofs.search.Tie as tie
 
-read-size-requires : tie.Need-read-size-requires
-read-size-requires c κs = search rules
+read-size_requires : tie.Need-read-size-requires
+read-size_requires c κs = search rules
 
-read-size-requires-2 : tie.Need-read-size-requires-2
-read-size-requires-2 c κs = search rules
+read-size_requires_2 : tie.Need-read-size-requires-2
+read-size_requires_2 c κs = search rules
 
-read-size-requires-3 : tie.Need-read-size-requires-3
-read-size-requires-3 c κs = search rules
+read-size_requires_3 : tie.Need-read-size-requires-3
+read-size_requires_3 c κs = search rules
 
-read-word-requires : tie.Need-read-word-requires
-read-word-requires c κs = search rules
+read-word_requires : tie.Need-read-word-requires
+read-word_requires c κs = search rules
 
-pass-runs-requires : tie.Need-pass-runs-requires
-pass-runs-requires c κs = search rules
+pass_runs_requires : tie.Need-pass-runs-requires
+pass_runs_requires c κs = search rules
 
-area-requires : tie.Need-area-requires
-area-requires c κs = search rules
+area_requires : tie.Need-area-requires
+area_requires c κs = search rules
 
-add-pass : tie.Need-overflow-add-pass
-add-pass c = search rules
+add_pass : tie.Need-overflow-add-pass
+add_pass c = search rules
 
-area-requires-2 : tie.Need-area-requires-2
-area-requires-2 c κs = search rules
+area_requires_2 : tie.Need-area-requires-2
+area_requires_2 c κs = search rules
 
-add-pass-2 : tie.Need-overflow-add-pass-2
-add-pass-2 c = search rules
+add_pass_2 : tie.Need-overflow-add-pass-2
+add_pass_2 c = search rules
 
-pass-requires : tie.Need-pass-requires
-pass-requires c κs = search rules
+pass_requires : tie.Need-pass-requires
+pass_requires c κs = search rules
 
-read-size-requires-4 : tie.Need-read-size-requires-4
-read-size-requires-4 c κs = search rules
+read-size_requires_4 : tie.Need-read-size-requires-4
+read-size_requires_4 c κs = search rules
 
-mul-pass : tie.Need-overflow-mul-pass
-mul-pass c = search rules
+mul_pass : tie.Need-overflow-mul-pass
+mul_pass c = search rules
 
-add-pass-3 : tie.Need-overflow-add-pass-3
-add-pass-3 c = search rules
+add_pass_3 : tie.Need-overflow-add-pass-3
+add_pass_3 c = search rules
 
-pass-requires-2 : tie.Need-pass-requires-2
-pass-requires-2 c κs = search rules
+pass_requires_2 : tie.Need-pass-requires-2
+pass_requires_2 c κs = search rules
 
 returns : tie.Need-returns
-unfolding behindSearch
+unfolding behind_search
 returns c =
     let s11 = c.before in
     let s10 = s11.before in
@@ -62,22 +62,22 @@ returns c =
     let s1 = s2.before in
     rw (← s1.read-size.ensures.0, ← s2.read-size2.ensures.0, ← s3.read-size3.ensures.0, ← s4.read_word.ensures, ← s5.pass-runs.ensures, ← s6.area.ensures.0, ← s8.area2.ensures.0, ← s9.pass.ensures, ← s10.read-size4.ensures.0, ← c.pass2.ensures)
 
-pub search-spec : {M : Type 1} → statement M
-search-spec =
+pub search_spec : {M : Type 1} → statement M
+search_spec =
     tie.close
     (tie.spec
-    read-size-requires
-    read-size-requires-2
-    read-size-requires-3
-    read-word-requires
-    pass-runs-requires
-    area-requires
-    add-pass
-    area-requires-2
-    add-pass-2
-    pass-requires
-    read-size-requires-4
-    mul-pass
-    add-pass-3
-    pass-requires-2
+    read-size_requires
+    read-size_requires_2
+    read-size_requires_3
+    read-word_requires
+    pass_runs_requires
+    area_requires
+    add_pass
+    area_requires_2
+    add_pass_2
+    pass_requires
+    read-size_requires_4
+    mul_pass
+    add_pass_3
+    pass_requires_2
     returns)

@@ -8,9 +8,9 @@ returns : tie.Need-returns
 unfolding is_number
 returns c = simp (eq-eqb _ _ c.if1.true)
 
-returns-2 : tie.Need-returns-2
+returns_2 : tie.Need-returns-2
 unfolding is_number
-returns-2 c = simp (ne_eqb _ _ c.before.if1.false)
+returns_2 c = simp (ne_eqb _ _ c.before.if1.false)
 
-pub is-number-spec : {M : Type 1} → statement M
-is-number-spec = tie.close (tie.spec returns returns-2)
+pub is-number_spec : {M : Type 1} → statement M
+is-number_spec = tie.close (tie.spec returns returns_2)

@@ -8,34 +8,34 @@ returns : tie.Need-returns
 unfolding stops
 returns c = simp (eq-eqb _ _ c.if1.true)
 
-returns-2 : tie.Need-returns-2
+returns_2 : tie.Need-returns-2
 unfolding stops
-returns-2 c = simp (ne_eqb _ _ c.before.if1.false, eq-eqb _ _ c.if2.true)
+returns_2 c = simp (ne_eqb _ _ c.before.if1.false, eq-eqb _ _ c.if2.true)
 
-returns-3 : tie.Need-returns-3
+returns_3 : tie.Need-returns-3
 unfolding stops
-returns-3 c = simp (ne_eqb _ _ c.before.before.if1.false, ne_eqb _ _ c.before.if2.false, eq-eqb _ _ c.if3.true)
+returns_3 c = simp (ne_eqb _ _ c.before.before.if1.false, ne_eqb _ _ c.before.if2.false, eq-eqb _ _ c.if3.true)
 
-returns-4 : tie.Need-returns-4
+returns_4 : tie.Need-returns-4
 unfolding stops
-returns-4 c = simp (ne_eqb _ _ c.before.before.before.if1.false, ne_eqb _ _ c.before.before.if2.false, ne_eqb _ _ c.before.if3.false, eq-eqb _ _ c.if4.true)
+returns_4 c = simp (ne_eqb _ _ c.before.before.before.if1.false, ne_eqb _ _ c.before.before.if2.false, ne_eqb _ _ c.before.if3.false, eq-eqb _ _ c.if4.true)
 
-is-blank-requires : tie.Need-is-blank-requires
-is-blank-requires c κs = search rules
+is_blank_requires : tie.Need-is-blank-requires
+is_blank_requires c κs = search rules
 
-returns-5 : tie.Need-returns-5
+returns_5 : tie.Need-returns-5
 unfolding stops
-returns-5 c =
+returns_5 c =
     let w = c.before.before in
     rw (ne_eqb _ _ w.before.before.before.if1.false, ne_eqb _ _ w.before.before.if2.false, ne_eqb _ _ w.before.if3.false, ne_eqb _ _ w.if4.false, sym c.before.is-blank.ensures, c.if5.true)
 
-returns-6 : tie.Need-returns-6
+returns_6 : tie.Need-returns-6
 unfolding stops
-returns-6 c =
+returns_6 c =
     let w = c.before.before in
     rw (ne_eqb _ _ w.before.before.before.if1.false, ne_eqb _ _ w.before.before.if2.false, ne_eqb _ _ w.before.if3.false, ne_eqb _ _ w.if4.false, sym c.before.is-blank.ensures, c.if5.false)
 
-pub stops-spec : {M : Type 1} → statement M
-stops-spec =
+pub stops_spec : {M : Type 1} → statement M
+stops_spec =
     tie.close
-    (tie.spec returns returns-2 returns-3 returns-4 is-blank-requires returns-5 returns-6)
+    (tie.spec returns returns_2 returns_3 returns_4 is_blank_requires returns_5 returns_6)

@@ -6,37 +6,37 @@ use Rattle.lines.specs.Words.{value_of}
 use Rattle.lines.proofs.value.Statement.{statement}
 use Rattle.lines.proofs.value.Tie as tie
 
-float-of-requires : tie.Need-float-of-requires
-float-of-requires c κs = search rules
+float_of_requires : tie.Need-float-of-requires
+float_of_requires c κs = search rules
 
 returns : tie.Need-returns
 unfolding value_of bits_of
 returns c = rw (eq-eqb _ _ c.before.if1.true, c.float_of.ensures)
 
-nearest-u32-to-f32-requires : tie.Need-nearest-u32-to-f32-requires
-nearest-u32-to-f32-requires c κs = search rules
+nearest_u32_to_f32_requires : tie.Need-nearest-u32-to-f32-requires
+nearest_u32_to_f32_requires c κs = search rules
 
-scale-requires : tie.Need-scale-requires
-scale-requires c κs = search rules
+scale_requires : tie.Need-scale-requires
+scale_requires c κs = search rules
 
-shared-slice-read-if3 : tie.Need-shared-slice-read-if3
-shared-slice-read-if3 c = search rules
+shared_slice_read_if3 : tie.Need-shared-slice-read-if3
+shared_slice_read_if3 c = search rules
 
-returns-2 : tie.Need-returns-2
+returns_2 : tie.Need-returns-2
 unfolding value_of
-returns-2 c =
+returns_2 c =
     let s = c.before.before.before in
     rw (ne_eqb _ _ s.before.before.if1.false, eq-eqb _ _ c.if3.true, s.before.nearest-u32-to-f32.ensures, s.scale.ensures)
 
-returns-3 : tie.Need-returns-3
+returns_3 : tie.Need-returns-3
 unfolding value_of
-returns-3 c =
+returns_3 c =
     let s = c.before.before.before in
     rw (ne_eqb _ _ s.before.before.if1.false, ne_eqb _ _ c.if3.false, s.before.nearest-u32-to-f32.ensures, s.scale.ensures)
 
-returns-4 : tie.Need-returns-4
+returns_4 : tie.Need-returns-4
 unfolding value_of
-returns-4 c =
+returns_4 c =
     let s = c.before in
     let text = s.before.before.before.before.before.args.text.now in
     rw (ne_eqb _ _ s.before.before.if1.false, get_or-eq_default text 0 c.if2.false, s.before.nearest-u32-to-f32.ensures, s.scale.ensures)
@@ -45,11 +45,11 @@ pub value_spec : {M : Type 1} → statement M
 value_spec =
     tie.close
     (tie.spec
-    float-of-requires
+    float_of_requires
     returns
-    nearest-u32-to-f32-requires
-    scale-requires
-    shared-slice-read-if3
-    returns-2
-    returns-3
-    returns-4)
+    nearest_u32_to_f32_requires
+    scale_requires
+    shared_slice_read_if3
+    returns_2
+    returns_3
+    returns_4)

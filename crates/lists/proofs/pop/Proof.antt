@@ -10,20 +10,20 @@ sub-last c = search rules
 mul-nodes : tie.Need-overflow-mul-nodes
 mul-nodes c = search rules
 
-slice-write-nodes : tie.Need-slice-write-nodes
-slice-write-nodes c = search rules
+slice_write_nodes : tie.Need-slice-write-nodes
+slice_write_nodes c = search rules
 
 mul-dists : tie.Need-overflow-mul-dists
 mul-dists c = search rules
 
-slice-write-dists : tie.Need-slice-write-dists
-slice-write-dists c = search rules
+slice_write_dists : tie.Need-slice-write-dists
+slice_write_dists c = search rules
 
 same_length : tie.Need-same-length
 same_length c = search rules
 
-same-length-2 : tie.Need-same-length-2
-same-length-2 c = search rules
+same-length_2 : tie.Need-same-length-2
+same-length_2 c = search rules
 
 returns : tie.Need-returns
 returns c = popped c.requires.0 c.requires.1 c.requires.2
@@ -34,9 +34,9 @@ pop_spec =
     (tie.spec
     sub-last
     mul-nodes
-    slice-write-nodes
+    slice_write_nodes
     mul-dists
-    slice-write-dists
+    slice_write_dists
     same_length
-    same-length-2
+    same-length_2
     returns)

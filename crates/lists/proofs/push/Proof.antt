@@ -4,17 +4,17 @@ use borrow.Author.Rules.{rules}
 use Rattle.lists.proofs.push.Statement.{statement}
 use Rattle.lists.proofs.push.Tie as tie
 
-add-push-cut : tie.Need-overflow-add-push-cut
-add-push-cut c = search rules
+add-push_cut : tie.Need-overflow-add-push-cut
+add-push_cut c = search rules
 
-push-cut-requires : tie.Need-push-cut-requires
-push-cut-requires c κs = search rules
+push_cut_requires : tie.Need-push-cut-requires
+push_cut_requires c κs = search rules
 
 same_length : tie.Need-same-length
 same_length c = search rules
 
-same-length-2 : tie.Need-same-length-2
-same-length-2 c = search rules
+same-length_2 : tie.Need-same-length-2
+same-length_2 c = search rules
 
 returns : tie.Need-returns
 returns c =
@@ -22,4 +22,4 @@ returns c =
     pushed-all pre.0 pre.1 c.before.before.before.before.push-cut.ensures
 
 pub push_spec : {M : Type 1} → statement M
-push_spec = tie.close (tie.spec add-push-cut push-cut-requires same_length same-length-2 returns)
+push_spec = tie.close (tie.spec add-push_cut push_cut_requires same_length same-length_2 returns)

@@ -7,7 +7,7 @@ use lib.ListN.{length, length-set}
 use lib.Ieee.{Float}
 use borrow.Author.Rules.{rules}
 use Rattle.lists.specs.Lists.{hole}
-use Rattle.lists.proofs.Slices.{hole-none, hole-turn}
+use Rattle.lists.proofs.Slices.{hole_none, hole_turn}
 use Rattle.lists.proofs.shift_up.Statement.{statement}
 use Rattle.lists.proofs.shift_up.Tie as tie
 
@@ -16,101 +16,101 @@ record Moved (ns : List ℕ) (ds : List Float) (p last : ℕ) (ns' : List ℕ) (
   to : i ≤ last
   nodes : ns' ≡ hole i last ns
   dists : ds' ≡ hole i last ds
-  nodes-long : length ns' ≡ length ns
-  dists-long : length ds' ≡ length ds
+  nodes_long : length ns' ≡ length ns
+  dists_long : length ds' ≡ length ds
 
-abbrev invariant-loop : tie.invariant-loop
-invariant-loop nodes₀ dists₀ p last i₀ nodes dists i = Moved nodes₀ dists₀ p last nodes dists i
+abbrev invariant_loop : tie.invariant-loop
+invariant_loop nodes₀ dists₀ p last i₀ nodes dists i = Moved nodes₀ dists₀ p last nodes dists i
 
-abbrev decreases-loop : tie.decreases-loop
-decreases-loop nodes₀ dists₀ p last i₀ nodes dists i = i
+abbrev decreases_loop : tie.decreases-loop
+decreases_loop nodes₀ dists₀ p last i₀ nodes dists i = i
 
-loop-holds : tie.Need-loop-init invariant-loop decreases-loop
-loop-holds c =
+loop_holds : tie.Need-loop-init invariant_loop decreases_loop
+loop_holds c =
     record {
       from = search rules;
       to = search rules;
-      nodes = sym (hole-none _ _ (search rules));
-      dists = sym (hole-none _ _ (search rules));
-      nodes-long = refl;
-      dists-long = refl;
+      nodes = sym (hole_none _ _ (search rules));
+      dists = sym (hole_none _ _ (search rules));
+      nodes_long = refl;
+      dists_long = refl;
     }
 
-sub-j : tie.Need-overflow-sub-j invariant-loop decreases-loop
-sub-j c = search rules
+sub_j : tie.Need-overflow-sub-j invariant_loop decreases_loop
+sub_j c = search rules
 
-mul-nodes : tie.Need-overflow-mul-nodes invariant-loop decreases-loop
+mul-nodes : tie.Need-overflow-mul-nodes invariant_loop decreases_loop
 mul-nodes c = search rules
 
-slice-read-nodes : tie.Need-slice-read-nodes invariant-loop decreases-loop
-slice-read-nodes c = search rules
+slice_read-nodes : tie.Need-slice-read-nodes invariant_loop decreases_loop
+slice_read-nodes c = search rules
 
-mul-nodes-2 : tie.Need-overflow-mul-nodes-2 invariant-loop decreases-loop
-mul-nodes-2 c = search rules
+mul-nodes_2 : tie.Need-overflow-mul-nodes-2 invariant_loop decreases_loop
+mul-nodes_2 c = search rules
 
-slice-write-nodes : tie.Need-slice-write-nodes invariant-loop decreases-loop
-slice-write-nodes c = search rules
+slice_write_nodes : tie.Need-slice-write-nodes invariant_loop decreases_loop
+slice_write_nodes c = search rules
 
-mul-dists : tie.Need-overflow-mul-dists invariant-loop decreases-loop
+mul-dists : tie.Need-overflow-mul-dists invariant_loop decreases_loop
 mul-dists c = search rules
 
-slice-read-dists : tie.Need-slice-read-dists invariant-loop decreases-loop
-slice-read-dists c = search rules
+slice_read-dists : tie.Need-slice-read-dists invariant_loop decreases_loop
+slice_read-dists c = search rules
 
-mul-dists-2 : tie.Need-overflow-mul-dists-2 invariant-loop decreases-loop
-mul-dists-2 c = search rules
+mul-dists_2 : tie.Need-overflow-mul-dists-2 invariant_loop decreases_loop
+mul-dists_2 c = search rules
 
-slice-write-dists : tie.Need-slice-write-dists invariant-loop decreases-loop
-slice-write-dists c = search rules
+slice_write_dists : tie.Need-slice-write-dists invariant_loop decreases_loop
+slice_write_dists c = search rules
 
-loop-less : tie.Need-loop-smaller invariant-loop decreases-loop
-loop-less c = search rules
+loop_less : tie.Need-loop-smaller invariant_loop decreases_loop
+loop_less c = search rules
 
-loop-again : tie.Need-loop-preserved invariant-loop decreases-loop
-loop-again c =
+loop_again : tie.Need-loop-preserved invariant_loop decreases_loop
+loop_again c =
     let at = c.before.before.before in
     let inv = at.loop.invariant in
     let pre = at.before.requires in
     record {
       from = search rules;
       to = search rules;
-      nodes = hole-turn at.loop.i _ _ _ _ (search rules) inv.to pre.1 inv.nodes;
-      dists = hole-turn at.loop.i _ _ _ _ (search rules) inv.to pre.2 inv.dists;
-      nodes-long = simp length-set inv.nodes-long;
-      dists-long = simp length-set inv.dists-long;
+      nodes = hole_turn at.loop.i _ _ _ _ (search rules) inv.to pre.1 inv.nodes;
+      dists = hole_turn at.loop.i _ _ _ _ (search rules) inv.to pre.2 inv.dists;
+      nodes_long = simp length-set inv.nodes_long;
+      dists_long = simp length-set inv.dists_long;
     }
 
-same_length : tie.Need-same-length invariant-loop decreases-loop
-same_length c = c.before.loop.invariant.nodes-long
+same_length : tie.Need-same-length invariant_loop decreases_loop
+same_length c = c.before.loop.invariant.nodes_long
 
-same-length-2 : tie.Need-same-length-2 invariant-loop decreases-loop
-same-length-2 c = c.before.loop.invariant.dists-long
+same-length_2 : tie.Need-same-length-2 invariant_loop decreases_loop
+same-length_2 c = c.before.loop.invariant.dists_long
 
-returns : tie.Need-returns invariant-loop decreases-loop
+returns : tie.Need-returns invariant_loop decreases_loop
 returns c =
     let at = c.before in
     let inv = at.loop.invariant in
     let done : at.loop.i ≡ at.before.args.p = omega arith in
     ((cc), (cc))
 
-pub shift-up-spec : {M : Type 1} → statement M
-shift-up-spec =
+pub shift_up_spec : {M : Type 1} → statement M
+shift_up_spec =
     tie.close
     (tie.spec
-    invariant-loop
-    decreases-loop
-    loop-holds
-    sub-j
+    invariant_loop
+    decreases_loop
+    loop_holds
+    sub_j
     mul-nodes
-    slice-read-nodes
-    mul-nodes-2
-    slice-write-nodes
+    slice_read-nodes
+    mul-nodes_2
+    slice_write_nodes
     mul-dists
-    slice-read-dists
-    mul-dists-2
-    slice-write-dists
-    loop-less
-    loop-again
+    slice_read-dists
+    mul-dists_2
+    slice_write_dists
+    loop_less
+    loop_again
     same_length
-    same-length-2
+    same-length_2
     returns)

@@ -1,71 +1,71 @@
 -- `lists::sort` meets its contract. The loop's invariant: to insert the entries that are left gives the whole sort. Assumes nothing.
 use Prim.Native.Nat.{◌-◌}
 use borrow.Author.Rules.{rules}
-use Rattle.lists.proofs.Slices.{Sorting, sorting-none, sorting-turn, sorting-end}
+use Rattle.lists.proofs.Slices.{Sorting, sorting_none, sorting_turn, sorting_end}
 use Rattle.lists.proofs.sort.Statement.{statement}
 use Rattle.lists.proofs.sort.Tie as tie
 
-abbrev invariant-loop : tie.invariant-loop
-invariant-loop nodes₀ dists₀ len i₀ nodes dists i = Sorting nodes₀ dists₀ len nodes dists i
+abbrev invariant_loop : tie.invariant-loop
+invariant_loop nodes₀ dists₀ len i₀ nodes dists i = Sorting nodes₀ dists₀ len nodes dists i
 
-abbrev decreases-loop : tie.decreases-loop
-decreases-loop nodes₀ dists₀ len i₀ nodes dists i = len - i
+abbrev decreases_loop : tie.decreases-loop
+decreases_loop nodes₀ dists₀ len i₀ nodes dists i = len - i
 
-loop-holds : tie.Need-loop-init invariant-loop decreases-loop
-loop-holds c = sorting-none
+loop_holds : tie.Need-loop-init invariant_loop decreases_loop
+loop_holds c = sorting_none
 
-mul-t7 : tie.Need-overflow-mul-t7 invariant-loop decreases-loop
-mul-t7 c = search rules
+mul_t7 : tie.Need-overflow-mul-t7 invariant_loop decreases_loop
+mul_t7 c = search rules
 
-slice-read-t9 : tie.Need-slice-read-t9 invariant-loop decreases-loop
-slice-read-t9 c = search rules
+slice_read_t9 : tie.Need-slice-read-t9 invariant_loop decreases_loop
+slice_read_t9 c = search rules
 
-mul-t11 : tie.Need-overflow-mul-t11 invariant-loop decreases-loop
-mul-t11 c = search rules
+mul_t11 : tie.Need-overflow-mul-t11 invariant_loop decreases_loop
+mul_t11 c = search rules
 
-slice-read-t13 : tie.Need-slice-read-t13 invariant-loop decreases-loop
-slice-read-t13 c = search rules
+slice_read_t13 : tie.Need-slice-read-t13 invariant_loop decreases_loop
+slice_read_t13 c = search rules
 
-push-requires : tie.Need-push-requires invariant-loop decreases-loop
-push-requires c κs = search rules
+push_requires : tie.Need-push-requires invariant_loop decreases_loop
+push_requires c κs = search rules
 
-loop-less : tie.Need-loop-smaller invariant-loop decreases-loop
-loop-less c = search rules
+loop_less : tie.Need-loop-smaller invariant_loop decreases_loop
+loop_less c = search rules
 
-loop-again : tie.Need-loop-preserved invariant-loop decreases-loop
-loop-again c =
+loop_again : tie.Need-loop-preserved invariant_loop decreases_loop
+loop_again c =
     let made = c.before.before.before.before in
     let test = made.before.before.before.before.before in
     let at = test.before in
     let pre = at.before.before.before.requires in
-    sorting-turn at.loop.invariant pre.0 pre.1 _ _ (search rules) made.push.ensures
+    sorting_turn at.loop.invariant pre.0 pre.1 _ _ (search rules) made.push.ensures
 
-same_length : tie.Need-same-length invariant-loop decreases-loop
-same_length c = c.before.loop.invariant.nodes-long
+same_length : tie.Need-same-length invariant_loop decreases_loop
+same_length c = c.before.loop.invariant.nodes_long
 
-same-length-2 : tie.Need-same-length-2 invariant-loop decreases-loop
-same-length-2 c = c.before.loop.invariant.dists-long
+same-length_2 : tie.Need-same-length-2 invariant_loop decreases_loop
+same-length_2 c = c.before.loop.invariant.dists_long
 
-returns : tie.Need-returns invariant-loop decreases-loop
+returns : tie.Need-returns invariant_loop decreases_loop
 returns c =
     let at = c.before in
     let pre = at.before.before.before.requires in
-    sorting-end at.loop.invariant pre.0 pre.1 (search rules)
+    sorting_end at.loop.invariant pre.0 pre.1 (search rules)
 
-pub sort-spec : {M : Type 1} → statement M
-sort-spec =
+pub sort_spec : {M : Type 1} → statement M
+sort_spec =
     tie.close
     (tie.spec
-    invariant-loop
-    decreases-loop
-    loop-holds
-    mul-t7
-    slice-read-t9
-    mul-t11
-    slice-read-t13
-    push-requires
-    loop-less
-    loop-again
+    invariant_loop
+    decreases_loop
+    loop_holds
+    mul_t7
+    slice_read_t9
+    mul_t11
+    slice_read_t13
+    push_requires
+    loop_less
+    loop_again
     same_length
-    same-length-2
+    same-length_2
     returns)

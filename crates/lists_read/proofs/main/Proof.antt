@@ -3,43 +3,43 @@ use Rattle.std.proofs.Common.{◌-◌, rules}
 use Rattle.lists_read.proofs.main.Statement.{statement}
 use Rattle.lists_read.proofs.main.Tie as tie
 
-abbrev invariant-loop : tie.invariant-loop
-invariant-loop count i₀ i = Unit {0}
+abbrev invariant_loop : tie.invariant-loop
+invariant_loop count i₀ i = Unit {0}
 
-abbrev decreases-loop : tie.decreases-loop
-decreases-loop count i₀ i = count - i
+abbrev decreases_loop : tie.decreases-loop
+decreases_loop count i₀ i = count - i
 
-arg-count-requires : tie.Need-arg-count-requires invariant-loop decreases-loop
-arg-count-requires c κs = search rules
+arg_count_requires : tie.Need-arg-count-requires invariant_loop decreases_loop
+arg_count_requires c κs = search rules
 
-loop-holds : tie.Need-loop-init invariant-loop decreases-loop
-loop-holds c = tt
+loop_holds : tie.Need-loop-init invariant_loop decreases_loop
+loop_holds c = tt
 
-read-list-requires : tie.Need-read-list-requires invariant-loop decreases-loop
-read-list-requires c κs = search rules
+read-list_requires : tie.Need-read-list-requires invariant_loop decreases_loop
+read-list_requires c κs = search rules
 
-add-i : tie.Need-overflow-add-i invariant-loop decreases-loop
-add-i c = search rules
+add_i : tie.Need-overflow-add-i invariant_loop decreases_loop
+add_i c = search rules
 
-loop-less : tie.Need-loop-smaller invariant-loop decreases-loop
-loop-less c = search rules
+loop_less : tie.Need-loop-smaller invariant_loop decreases_loop
+loop_less c = search rules
 
-loop-again : tie.Need-loop-preserved invariant-loop decreases-loop
-loop-again c = tt
+loop_again : tie.Need-loop-preserved invariant_loop decreases_loop
+loop_again c = tt
 
-returns : tie.Need-returns invariant-loop decreases-loop
+returns : tie.Need-returns invariant_loop decreases_loop
 returns c = search rules
 
 pub main_spec : {M : Type 1} → statement M
 main_spec =
     tie.close
     (tie.spec
-    invariant-loop
-    decreases-loop
-    arg-count-requires
-    loop-holds
-    read-list-requires
-    add-i
-    loop-less
-    loop-again
+    invariant_loop
+    decreases_loop
+    arg_count_requires
+    loop_holds
+    read-list_requires
+    add_i
+    loop_less
+    loop_again
     returns)

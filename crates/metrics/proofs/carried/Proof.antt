@@ -5,8 +5,8 @@ use Rattle.rules.specs.Distance.{carried}
 use Rattle.metrics.proofs.carried.Statement.{statement}
 use Rattle.metrics.proofs.carried.Tie as tie
 
-enum-known-distance : tie.Need-enum-known-distance
-enum-known-distance c = search rules
+enum_known-distance : tie.Need-enum-known-distance
+enum_known-distance c = search rules
 
 enum_told : tie.Need-enum-told
 enum_told c = search rules
@@ -15,9 +15,9 @@ returns : tie.Need-returns
 unfolding carried
 returns c = search rules
 
-returns-2 : tie.Need-returns-2
+returns_2 : tie.Need-returns-2
 unfolding carried of_bits
-returns-2 c = search rules
+returns_2 c = search rules
 
-pub carried-spec : {M : Type 1} → statement M
-carried-spec = tie.close (tie.spec enum-known-distance enum_told returns returns-2)
+pub carried_spec : {M : Type 1} → statement M
+carried_spec = tie.close (tie.spec enum_known-distance enum_told returns returns_2)

@@ -7,16 +7,16 @@ use Rattle.metrics.proofs.unfit.Tie as tie
 enum_told : tie.Need-enum-told
 enum_told c = search rules
 
-enum-told-2 : tie.Need-enum-told-2
-enum-told-2 c = search rules
+enum_told_2 : tie.Need-enum-told-2
+enum_told_2 c = search rules
 
 returns : tie.Need-returns
 unfolding unfit
 returns c = search rules
 
-returns-2 : tie.Need-returns-2
+returns_2 : tie.Need-returns-2
 unfolding unfit
-returns-2 c = search rules
+returns_2 c = search rules
 
-pub unfit-spec : {M : Type 1} → statement M
-unfit-spec = tie.close (tie.spec enum_told enum-told-2 returns returns-2)
+pub unfit_spec : {M : Type 1} → statement M
+unfit_spec = tie.close (tie.spec enum_told enum_told_2 returns returns_2)

@@ -3,59 +3,59 @@ use Rattle.std.proofs.Common.{arith, length-take, rules}
 use Rattle.name_counters.proofs.ask.Statement.{statement}
 use Rattle.name_counters.proofs.ask.Tie as tie
 
-least-requires : tie.Need-least-requires
-least-requires c κs = search rules
+least_requires : tie.Need-least-requires
+least_requires c κs = search rules
 
-slice-aggregate-look : tie.Need-slice-aggregate-look
-slice-aggregate-look c = simp length-take (omega arith)
+slice_aggregate_look : tie.Need-slice-aggregate-look
+slice_aggregate_look c = simp length-take (omega arith)
 
-slice-aggregate-look-2 : tie.Need-slice-aggregate-look-2
-slice-aggregate-look-2 c = search rules
+slice_aggregate_look_2 : tie.Need-slice-aggregate-look-2
+slice_aggregate_look_2 c = search rules
 
-slice-aggregate-look-3 : tie.Need-slice-aggregate-look-3
-slice-aggregate-look-3 c = search rules
+slice_aggregate_look_3 : tie.Need-slice-aggregate-look-3
+slice_aggregate_look_3 c = search rules
 
-look-requires : tie.Need-look-requires
-look-requires c κs = search rules
+look_requires : tie.Need-look-requires
+look_requires c κs = search rules
 
-enum-known-a : tie.Need-enum-known-a
-enum-known-a c = search rules
+enum_known_a : tie.Need-enum-known-a
+enum_known_a c = search rules
 
-slice-aggregate-put-results : tie.Need-slice-aggregate-put-results
-slice-aggregate-put-results c = search rules
+slice_aggregate_put_results : tie.Need-slice-aggregate-put-results
+slice_aggregate_put_results c = search rules
 
-slice-aggregate-put-results-2 : tie.Need-slice-aggregate-put-results-2
-slice-aggregate-put-results-2 c = search rules
+slice_aggregate_put_results_2 : tie.Need-slice-aggregate-put-results-2
+slice_aggregate_put_results_2 c = search rules
 
-put-results-requires : tie.Need-put-results-requires
-put-results-requires c κs = search rules
+put_results_requires : tie.Need-put-results-requires
+put_results_requires c κs = search rules
 
-enum-known-a-2 : tie.Need-enum-known-a-2
-enum-known-a-2 c = search rules
+enum_known_a_2 : tie.Need-enum-known-a-2
+enum_known_a_2 c = search rules
 
-put-refusal-requires : tie.Need-put-refusal-requires
-put-refusal-requires c κs = search rules
+put_refusal_requires : tie.Need-put-refusal-requires
+put_refusal_requires c κs = search rules
 
 returns : tie.Need-returns
 returns c = search rules
 
-returns-2 : tie.Need-returns-2
-returns-2 c = search rules
+returns_2 : tie.Need-returns-2
+returns_2 c = search rules
 
-pub ask-spec : {M : Type 1} → statement M
-ask-spec =
+pub ask_spec : {M : Type 1} → statement M
+ask_spec =
     tie.close
     (tie.spec
-    least-requires
-    slice-aggregate-look
-    slice-aggregate-look-2
-    slice-aggregate-look-3
-    look-requires
-    enum-known-a
-    slice-aggregate-put-results
-    slice-aggregate-put-results-2
-    put-results-requires
-    enum-known-a-2
-    put-refusal-requires
+    least_requires
+    slice_aggregate_look
+    slice_aggregate_look_2
+    slice_aggregate_look_3
+    look_requires
+    enum_known_a
+    slice_aggregate_put_results
+    slice_aggregate_put_results_2
+    put_results_requires
+    enum_known_a_2
+    put_refusal_requires
     returns
-    returns-2)
+    returns_2)

@@ -3,47 +3,47 @@ use Rattle.std.proofs.Common.{◌-◌, rules}
 use Rattle.name_counters.proofs.put_results.Statement.{statement}
 use Rattle.name_counters.proofs.put_results.Tie as tie
 
-abbrev invariant-loop : tie.invariant-loop
-invariant-loop text wholes table asked m nodes bits i₀ i = Unit {0}
+abbrev invariant_loop : tie.invariant-loop
+invariant_loop text wholes table asked m nodes bits i₀ i = Unit {0}
 
-abbrev decreases-loop : tie.decreases-loop
-decreases-loop text wholes table asked m nodes bits i₀ i = m - i
+abbrev decreases_loop : tie.decreases-loop
+decreases_loop text wholes table asked m nodes bits i₀ i = m - i
 
-loop-holds : tie.Need-loop-init invariant-loop decreases-loop
-loop-holds c = tt
+loop_holds : tie.Need-loop-init invariant_loop decreases_loop
+loop_holds c = tt
 
-whole-requires : tie.Need-whole-requires invariant-loop decreases-loop
-whole-requires c κs = search rules
+whole_requires : tie.Need-whole-requires invariant_loop decreases_loop
+whole_requires c κs = search rules
 
-whole-requires-2 : tie.Need-whole-requires-2 invariant-loop decreases-loop
-whole-requires-2 c κs = search rules
+whole_requires_2 : tie.Need-whole-requires-2 invariant_loop decreases_loop
+whole_requires_2 c κs = search rules
 
-add-i : tie.Need-overflow-add-i invariant-loop decreases-loop
-add-i c = search rules
+add_i : tie.Need-overflow-add-i invariant_loop decreases_loop
+add_i c = search rules
 
-put-result-requires : tie.Need-put-result-requires invariant-loop decreases-loop
-put-result-requires c κs = search rules
+put_result_requires : tie.Need-put-result-requires invariant_loop decreases_loop
+put_result_requires c κs = search rules
 
-loop-less : tie.Need-loop-smaller invariant-loop decreases-loop
-loop-less c = search rules
+loop_less : tie.Need-loop-smaller invariant_loop decreases_loop
+loop_less c = search rules
 
-loop-again : tie.Need-loop-preserved invariant-loop decreases-loop
-loop-again c = tt
+loop_again : tie.Need-loop-preserved invariant_loop decreases_loop
+loop_again c = tt
 
-returns : tie.Need-returns invariant-loop decreases-loop
+returns : tie.Need-returns invariant_loop decreases_loop
 returns c = search rules
 
-pub put-results-spec : {M : Type 1} → statement M
-put-results-spec =
+pub put_results_spec : {M : Type 1} → statement M
+put_results_spec =
     tie.close
     (tie.spec
-    invariant-loop
-    decreases-loop
-    loop-holds
-    whole-requires
-    whole-requires-2
-    add-i
-    put-result-requires
-    loop-less
-    loop-again
+    invariant_loop
+    decreases_loop
+    loop_holds
+    whole_requires
+    whole_requires_2
+    add_i
+    put_result_requires
+    loop_less
+    loop_again
     returns)

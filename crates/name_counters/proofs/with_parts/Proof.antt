@@ -3,63 +3,63 @@ use Rattle.std.proofs.Common.{arith, length-take, rules}
 use Rattle.name_counters.proofs.with_parts.Statement.{statement}
 use Rattle.name_counters.proofs.with_parts.Tie as tie
 
-graph-room-requires : tie.Need-graph-room-requires
-graph-room-requires c κs = search rules
+graph-room_requires : tie.Need-graph-room-requires
+graph-room_requires c κs = search rules
 
-area-requires : tie.Need-area-requires
-area-requires c κs = search rules
+area_requires : tie.Need-area-requires
+area_requires c κs = search rules
 
-least-requires : tie.Need-least-requires
-least-requires c κs = search rules
+least_requires : tie.Need-least-requires
+least_requires c κs = search rules
 
-area-requires-2 : tie.Need-area-requires-2
-area-requires-2 c κs = search rules
+area_requires_2 : tie.Need-area-requires-2
+area_requires_2 c κs = search rules
 
-least-requires-2 : tie.Need-least-requires-2
-least-requires-2 c κs = search rules
+least_requires_2 : tie.Need-least-requires-2
+least_requires_2 c κs = search rules
 
-slice-aggregate-play : tie.Need-slice-aggregate-play
-slice-aggregate-play c = simp length-take (omega arith)
+slice_aggregate_play : tie.Need-slice-aggregate-play
+slice_aggregate_play c = simp length-take (omega arith)
 
-array-borrow-prefix-graph : tie.Need-array-borrow-prefix-graph
-array-borrow-prefix-graph c = search rules
+array_borrow_prefix_graph : tie.Need-array-borrow-prefix-graph
+array_borrow_prefix_graph c = search rules
 
-slice-aggregate-play-2 : tie.Need-slice-aggregate-play-2
-slice-aggregate-play-2 c = simp length-take (omega arith)
+slice_aggregate_play_2 : tie.Need-slice-aggregate-play-2
+slice_aggregate_play_2 c = simp length-take (omega arith)
 
-mul-play : tie.Need-overflow-mul-play
-mul-play c = search rules
+mul_play : tie.Need-overflow-mul-play
+mul_play c = search rules
 
-sub-play : tie.Need-overflow-sub-play
-sub-play c = search rules
+sub_play : tie.Need-overflow-sub-play
+sub_play c = search rules
 
-part-play-start : tie.Need-slice-bounds-play-start
-part-play-start c = search rules
+part_play_start : tie.Need-slice-bounds-play-start
+part_play_start c = search rules
 
-part-play-end : tie.Need-slice-bounds-play-end
-part-play-end c = search rules
+part_play_end : tie.Need-slice-bounds-play-end
+part_play_end c = search rules
 
-play-requires : tie.Need-play-requires
-play-requires c κs = search rules
+play_requires : tie.Need-play-requires
+play_requires c κs = search rules
 
 returns : tie.Need-returns
 returns c = search rules
 
-pub with-parts-spec : {M : Type 1} → statement M
-with-parts-spec =
+pub with_parts_spec : {M : Type 1} → statement M
+with_parts_spec =
     tie.close
     (tie.spec
-    graph-room-requires
-    area-requires
-    least-requires
-    area-requires-2
-    least-requires-2
-    slice-aggregate-play
-    array-borrow-prefix-graph
-    slice-aggregate-play-2
-    mul-play
-    sub-play
-    part-play-start
-    part-play-end
-    play-requires
+    graph-room_requires
+    area_requires
+    least_requires
+    area_requires_2
+    least_requires_2
+    slice_aggregate_play
+    array_borrow_prefix_graph
+    slice_aggregate_play_2
+    mul_play
+    sub_play
+    part_play_start
+    part_play_end
+    play_requires
     returns)

@@ -7,15 +7,15 @@ returns : tie.Need-returns
 unfolding before
 returns c = simp c.if1.true
 
-returns-2 : tie.Need-returns-2
+returns_2 : tie.Need-returns-2
 unfolding before
-returns-2 c =
+returns_2 c =
     let w = c.before.before.before.before in
     simp (w.before.if1.false, w.if2.true)
 
-returns-3 : tie.Need-returns-3
+returns_3 : tie.Need-returns-3
 unfolding before
-returns-3 c = simp (c.before.if1.false, c.if2.false)
+returns_3 c = simp (c.before.if1.false, c.if2.false)
 
-pub precedes-spec : {M : Type 1} → statement M
-precedes-spec = tie.close (tie.spec returns returns-2 returns-3)
+pub precedes_spec : {M : Type 1} → statement M
+precedes_spec = tie.close (tie.spec returns returns_2 returns_3)

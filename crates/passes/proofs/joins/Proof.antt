@@ -8,9 +8,9 @@ returns : tie.Need-returns
 unfolding joins
 returns c = rw c.before.before.if1.true
 
-returns-2 : tie.Need-returns-2
+returns_2 : tie.Need-returns-2
 unfolding joins
-returns-2 c = search rules
+returns_2 c = search rules
 
-pub joins-spec : {M : Type 1} → statement M
-joins-spec = tie.close (tie.spec returns returns-2)
+pub joins_spec : {M : Type 1} → statement M
+joins_spec = tie.close (tie.spec returns returns_2)

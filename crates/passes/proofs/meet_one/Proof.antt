@@ -5,17 +5,17 @@ use borrow.Author.Rules.{rules}
 use Rattle.passes.proofs.meet_one.Statement.{statement}
 use Rattle.passes.proofs.meet_one.Tie as tie
 
-joins-requires : tie.Need-joins-requires
-joins-requires c κs = search rules
+joins_requires : tie.Need-joins-requires
+joins_requires c κs = search rules
 
-meet-requires : tie.Need-meet-requires
-meet-requires c κs = search rules
+meet_requires : tie.Need-meet-requires
+meet_requires c κs = search rules
 
 same_length : tie.Need-same-length
 same_length c = search rules
 
-same-length-2 : tie.Need-same-length-2
-same-length-2 c = search rules
+same-length_2 : tie.Need-same-length-2
+same-length_2 c = search rules
 
 returns : tie.Need-returns
 returns c =
@@ -23,8 +23,8 @@ returns c =
     let tested = met.before.before.before in
     one-joins _ _ _ _ (sym tested.before.joins.ensures ∙ tested.if1.true) met.meet.ensures
 
-returns-2 : tie.Need-returns-2
-returns-2 c = one-passed _ _ _ _ (sym c.before.joins.ensures ∙ c.if1.false)
+returns_2 : tie.Need-returns-2
+returns_2 c = one-passed _ _ _ _ (sym c.before.joins.ensures ∙ c.if1.false)
 
-pub meet-one-spec : {M : Type 1} → statement M
-meet-one-spec = tie.close (tie.spec joins-requires meet-requires same_length same-length-2 returns returns-2)
+pub meet-one_spec : {M : Type 1} → statement M
+meet-one_spec = tie.close (tie.spec joins_requires meet_requires same_length same-length_2 returns returns_2)

@@ -1,5 +1,5 @@
 -- `passes::members_at` meets its contract. Assumes nothing.
-use Rattle.passes.proofs.Contexts.{ListIn, members-room, members-cut}
+use Rattle.passes.proofs.Contexts.{ListIn, members-room, members_cut}
 use borrow.Author.Rules.{rules}
 use Rattle.passes.proofs.members_at.Statement.{statement}
 use Rattle.passes.proofs.members_at.Tie as tie
@@ -14,41 +14,41 @@ add-from c = search rules
 mul-to : tie.Need-overflow-mul-to
 mul-to c = search rules
 
-shared-slice-read-to : tie.Need-shared-slice-read-to
-shared-slice-read-to c = let fits = top c.before in search rules
+shared_slice_read-to : tie.Need-shared-slice-read-to
+shared_slice_read-to c = let fits = top c.before in search rules
 
-cast-to : tie.Need-overflow-cast-to
-cast-to c = let fits = top c.before in search rules
+cast_to : tie.Need-overflow-cast-to
+cast_to c = let fits = top c.before in search rules
 
 add-to : tie.Need-overflow-add-to
 add-to c = let fits = top c.before in search rules
 
-mul-result : tie.Need-overflow-mul-result
-mul-result c = search rules
+mul_result : tie.Need-overflow-mul-result
+mul_result c = search rules
 
-sub-result : tie.Need-overflow-sub-result
-sub-result c = search rules
+sub_result : tie.Need-overflow-sub-result
+sub_result c = search rules
 
-part-result-start : tie.Need-slice-bounds-result-start
-part-result-start c = search rules
+part_result_start : tie.Need-slice-bounds-result-start
+part_result_start c = search rules
 
-part-result-end : tie.Need-slice-bounds-result-end
-part-result-end c = let fits = top c.before in search rules
+part_result_end : tie.Need-slice-bounds-result-end
+part_result_end c = let fits = top c.before in search rules
 
 returns : tie.Need-returns
-returns c = let start = c.before.before in members-cut start.args.context.now start.args.at start.requires.0
+returns c = let start = c.before.before in members_cut start.args.context.now start.args.at start.requires.0
 
-pub members-at-spec : {M : Type 1} → statement M
-members-at-spec =
+pub members-at_spec : {M : Type 1} → statement M
+members-at_spec =
     tie.close
     (tie.spec
     add-from
     mul-to
-    shared-slice-read-to
-    cast-to
+    shared_slice_read-to
+    cast_to
     add-to
-    mul-result
-    sub-result
-    part-result-start
-    part-result-end
+    mul_result
+    sub_result
+    part_result_start
+    part_result_end
     returns)

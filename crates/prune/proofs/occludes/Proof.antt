@@ -8,5 +8,5 @@ returns : tie.Need-returns
 unfolding cosine
 returns c = refl
 
-pub occludes-spec : {M : Type 1} → statement M
-occludes-spec = tie.close (tie.spec returns)
+pub occludes_spec : {M : Type 1} → statement M
+occludes_spec = tie.close (tie.spec returns)

@@ -1,55 +1,55 @@
 -- `refusals::fill_words` meets its contract: the first `i` places are filled. Assumes nothing.
 use Rattle.std.proofs.Common.{◌-◌, length, arith, rules}
-use Rattle.refusals.specs.Junk.{nextWord}
-use Rattle.refusals.proofs.Laws.{Filling, filling-none, filling-turn, filling-end}
+use Rattle.refusals.specs.Junk.{next_word}
+use Rattle.refusals.proofs.Laws.{Filling, filling_none, filling_turn, filling_end}
 use Rattle.refusals.proofs.fill_words.Statement.{statement}
 use Rattle.refusals.proofs.fill_words.Tie as tie
 
-abbrev invariant-loop : tie.invariant-loop
-invariant-loop xs₀ first i₀ v₀ xs i v = Filling nextWord first xs₀ xs i v
+abbrev invariant_loop : tie.invariant-loop
+invariant_loop xs₀ first i₀ v₀ xs i v = Filling next_word first xs₀ xs i v
 
-abbrev decreases-loop : tie.decreases-loop
-decreases-loop xs₀ first i₀ v₀ xs i v = length xs₀ - i
+abbrev decreases_loop : tie.decreases-loop
+decreases_loop xs₀ first i₀ v₀ xs i v = length xs₀ - i
 
-loop-holds : tie.Need-loop-init invariant-loop decreases-loop
-loop-holds c = filling-none nextWord _ _
+loop_holds : tie.Need-loop-init invariant_loop decreases_loop
+loop_holds c = filling_none next_word _ _
 
-mul-xs : tie.Need-overflow-mul-xs invariant-loop decreases-loop
-mul-xs c = let long = c.before.loop.invariant.long in search rules
+mul_xs : tie.Need-overflow-mul-xs invariant_loop decreases_loop
+mul_xs c = let long = c.before.loop.invariant.long in search rules
 
-slice-write-xs : tie.Need-slice-write-xs invariant-loop decreases-loop
-slice-write-xs c = let long = c.before.loop.invariant.long in omega arith
+slice_write_xs : tie.Need-slice-write-xs invariant_loop decreases_loop
+slice_write_xs c = let long = c.before.loop.invariant.long in omega arith
 
-wrapping-add-u32-requires : tie.Need-wrapping-add-u32-requires invariant-loop decreases-loop
-wrapping-add-u32-requires c κs = search rules
+wrapping_add_u32_requires : tie.Need-wrapping-add-u32-requires invariant_loop decreases_loop
+wrapping_add_u32_requires c κs = search rules
 
-add-i : tie.Need-overflow-add-i invariant-loop decreases-loop
-add-i c = search rules
+add_i : tie.Need-overflow-add-i invariant_loop decreases_loop
+add_i c = search rules
 
-loop-less : tie.Need-loop-smaller invariant-loop decreases-loop
-loop-less c = let long = c.before.before.loop.invariant.long in omega arith
+loop_less : tie.Need-loop-smaller invariant_loop decreases_loop
+loop_less c = let long = c.before.before.loop.invariant.long in omega arith
 
-loop-again : tie.Need-loop-preserved invariant-loop decreases-loop
-loop-again c = let long = c.before.before.loop.invariant.long in rw c.wrapping-add-u32.ensures (filling-turn nextWord c.before.before.loop.invariant (omega arith))
+loop_again : tie.Need-loop-preserved invariant_loop decreases_loop
+loop_again c = let long = c.before.before.loop.invariant.long in rw c.wrapping-add-u32.ensures (filling_turn next_word c.before.before.loop.invariant (omega arith))
 
-same_length : tie.Need-same-length invariant-loop decreases-loop
+same_length : tie.Need-same-length invariant_loop decreases_loop
 same_length c = c.before.loop.invariant.long
 
-returns : tie.Need-returns invariant-loop decreases-loop
-returns c = let long = c.before.loop.invariant.long in filling-end nextWord c.before.loop.invariant (omega arith)
+returns : tie.Need-returns invariant_loop decreases_loop
+returns c = let long = c.before.loop.invariant.long in filling_end next_word c.before.loop.invariant (omega arith)
 
-pub fill-words-spec : {M : Type 1} → statement M
-fill-words-spec =
+pub fill_words_spec : {M : Type 1} → statement M
+fill_words_spec =
     tie.close
     (tie.spec
-    invariant-loop
-    decreases-loop
-    loop-holds
-    mul-xs
-    slice-write-xs
-    wrapping-add-u32-requires
-    add-i
-    loop-less
-    loop-again
+    invariant_loop
+    decreases_loop
+    loop_holds
+    mul_xs
+    slice_write_xs
+    wrapping_add_u32_requires
+    add_i
+    loop_less
+    loop_again
     same_length
     returns)

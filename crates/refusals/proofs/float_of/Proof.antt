@@ -9,12 +9,12 @@ returns : tie.Need-returns
 unfolding bits_of div of_bits
 returns c = rw (eq-eqb _ _ c.if1.true)
 
-float-requires : tie.Need-float-requires
-float-requires c κs = search rules
+float_requires : tie.Need-float-requires
+float_requires c κs = search rules
 
-returns-2 : tie.Need-returns-2
+returns_2 : tie.Need-returns-2
 unfolding bits_of
-returns-2 c = rw (ne_eqb _ _ c.before.if1.false) c.float.ensures
+returns_2 c = rw (ne_eqb _ _ c.before.if1.false) c.float.ensures
 
-pub float-of-spec : {M : Type 1} → statement M
-float-of-spec = tie.close (tie.spec returns float-requires returns-2)
+pub float_of_spec : {M : Type 1} → statement M
+float_of_spec = tie.close (tie.spec returns float_requires returns_2)

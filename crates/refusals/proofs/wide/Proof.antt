@@ -8,9 +8,9 @@ returns : tie.Need-returns
 unfolding wide_of
 returns c = rw (eq-eqb _ _ c.if1.true)
 
-returns-2 : tie.Need-returns-2
+returns_2 : tie.Need-returns-2
 unfolding wide_of
-returns-2 c = rw (ne_eqb _ _ c.if1.false)
+returns_2 c = rw (ne_eqb _ _ c.if1.false)
 
 pub wide_spec : {M : Type 1} → statement M
-wide_spec = tie.close (tie.spec returns returns-2)
+wide_spec = tie.close (tie.spec returns returns_2)

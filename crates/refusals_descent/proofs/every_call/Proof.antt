@@ -3,51 +3,51 @@ use borrow.Author.Rules.{rules}
 use Rattle.refusals_descent.proofs.every_call.Statement.{statement}
 use Rattle.refusals_descent.proofs.every_call.Tie as tie
 
-abbrev invariant-loop : tie.invariant-loop
-invariant-loop text left₀ cursor₀ left cursor = Unit {0}
+abbrev invariant_loop : tie.invariant-loop
+invariant_loop text left₀ cursor₀ left cursor = Unit {0}
 
-abbrev decreases-loop : tie.decreases-loop
-decreases-loop text left₀ cursor₀ left cursor = left
+abbrev decreases_loop : tie.decreases-loop
+decreases_loop text left₀ cursor₀ left cursor = left
 
-start-requires : tie.Need-start-requires invariant-loop decreases-loop
-start-requires c κs = search rules
+start_requires : tie.Need-start-requires invariant_loop decreases_loop
+start_requires c κs = search rules
 
-loop-holds : tie.Need-loop-init invariant-loop decreases-loop
-loop-holds c = tt
+loop_holds : tie.Need-loop-init invariant_loop decreases_loop
+loop_holds c = tt
 
-read-word-requires : tie.Need-read-word-requires invariant-loop decreases-loop
-read-word-requires c κs = search rules
+read-word_requires : tie.Need-read-word-requires invariant_loop decreases_loop
+read-word_requires c κs = search rules
 
-returns : tie.Need-returns invariant-loop decreases-loop
+returns : tie.Need-returns invariant_loop decreases_loop
 returns c = search rules
 
-one-call-requires : tie.Need-one-call-requires invariant-loop decreases-loop
-one-call-requires c κs = search rules
+one_call_requires : tie.Need-one-call-requires invariant_loop decreases_loop
+one_call_requires c κs = search rules
 
-sub-left : tie.Need-overflow-sub-left invariant-loop decreases-loop
+sub-left : tie.Need-overflow-sub-left invariant_loop decreases_loop
 sub-left c = search rules
 
-loop-less : tie.Need-loop-smaller invariant-loop decreases-loop
-loop-less c = search rules
+loop_less : tie.Need-loop-smaller invariant_loop decreases_loop
+loop_less c = search rules
 
-loop-again : tie.Need-loop-preserved invariant-loop decreases-loop
-loop-again c = tt
+loop_again : tie.Need-loop-preserved invariant_loop decreases_loop
+loop_again c = tt
 
-returns-2 : tie.Need-returns-2 invariant-loop decreases-loop
-returns-2 c = search rules
+returns_2 : tie.Need-returns-2 invariant_loop decreases_loop
+returns_2 c = search rules
 
-pub every-call-spec : {M : Type 1} → statement M
-every-call-spec =
+pub every_call_spec : {M : Type 1} → statement M
+every_call_spec =
     tie.close
     (tie.spec
-    invariant-loop
-    decreases-loop
-    start-requires
-    loop-holds
-    read-word-requires
+    invariant_loop
+    decreases_loop
+    start_requires
+    loop_holds
+    read-word_requires
     returns
-    one-call-requires
+    one_call_requires
     sub-left
-    loop-less
-    loop-again
-    returns-2)
+    loop_less
+    loop_again
+    returns_2)

@@ -1,7 +1,7 @@
 -- `refusals_relay::put_closed` meets its contract. Assumes nothing.
 use Rattle.pages.specs.Page.{bytes}
-use Rattle.pages.proofs.Laws.{puts-both}
-use Rattle.refusals_relay.specs.Texts.{closedText}
+use Rattle.pages.proofs.Laws.{puts_both}
+use Rattle.refusals_relay.specs.Texts.{closed_text}
 use Rattle.std.proofs.Common.{rules}
 use Rattle.refusals_relay.proofs.put_closed.Statement.{statement}
 use Rattle.refusals_relay.proofs.put_closed.Tie as tie
@@ -9,62 +9,62 @@ use Rattle.refusals_relay.proofs.put_closed.Tie as tie
 enum_told : tie.Need-enum-told
 enum_told c = search rules
 
-slice-aggregate-put : tie.Need-slice-aggregate-put
-slice-aggregate-put c = search rules
+slice_aggregate_put : tie.Need-slice-aggregate-put
+slice_aggregate_put c = search rules
 
-put-requires : tie.Need-put-requires
-put-requires c κs = search rules
+put_requires : tie.Need-put-requires
+put_requires c κs = search rules
 
-put-words-requires : tie.Need-put-words-requires
-put-words-requires c κs = search rules
+put-words_requires : tie.Need-put-words-requires
+put-words_requires c κs = search rules
 
-left-done-requires : tie.Need-left-done-requires
-left-done-requires c κs = search rules
+left-done_requires : tie.Need-left-done-requires
+left-done_requires c κs = search rules
 
-put-left-requires : tie.Need-put-left-requires
-put-left-requires c κs = search rules
+put-left_requires : tie.Need-put-left-requires
+put-left_requires c κs = search rules
 
-enum-known-answer : tie.Need-enum-known-answer
-enum-known-answer c = search rules
+enum_known-answer : tie.Need-enum-known-answer
+enum_known-answer c = search rules
 
-put-refusal-requires : tie.Need-put-refusal-requires
-put-refusal-requires c κs = search rules
+put_refusal_requires : tie.Need-put-refusal-requires
+put_refusal_requires c κs = search rules
 
-left-refused-requires : tie.Need-left-refused-requires
-left-refused-requires c κs = search rules
+left-refused_requires : tie.Need-left-refused-requires
+left-refused_requires c κs = search rules
 
-put-left-requires-2 : tie.Need-put-left-requires-2
-put-left-requires-2 c κs = search rules
+put-left_requires_2 : tie.Need-put-left-requires-2
+put-left_requires_2 c κs = search rules
 
 same_length : tie.Need-same-length
 same_length c = search rules
 
 returns : tie.Need-returns
-unfolding closedText bytes
-returns c = rw (c.before.before.before.before.before.before.before.before.before.before.before.before.before.before.enum_told.given.1, ← c.before.before.before.left-done.ensures) (puts-both (puts-both c.before.before.before.before.before.before.before.before.before.before.before.put.ensures c.before.before.before.before.before.before.before.put-words.ensures) c.before.before.put-left.ensures)
+unfolding closed_text bytes
+returns c = rw (c.before.before.before.before.before.before.before.before.before.before.before.before.before.before.enum_told.given.1, ← c.before.before.before.left-done.ensures) (puts_both (puts_both c.before.before.before.before.before.before.before.before.before.before.before.put.ensures c.before.before.before.before.before.before.before.put-words.ensures) c.before.before.put-left.ensures)
 
-same-length-2 : tie.Need-same-length-2
-same-length-2 c = search rules
+same-length_2 : tie.Need-same-length-2
+same-length_2 c = search rules
 
-returns-2 : tie.Need-returns-2
-unfolding closedText
-returns-2 c = rw (c.before.before.before.before.before.before.before.before.before.before.answer.given.1, ← c.before.before.before.left-refused.ensures) (puts-both c.before.before.before.before.before.before.before.put-refusal.ensures c.before.before.put-left2.ensures)
+returns_2 : tie.Need-returns-2
+unfolding closed_text
+returns_2 c = rw (c.before.before.before.before.before.before.before.before.before.before.answer.given.1, ← c.before.before.before.left-refused.ensures) (puts_both c.before.before.before.before.before.before.before.put-refusal.ensures c.before.before.put-left2.ensures)
 
-pub put-closed-spec : {M : Type 1} → statement M
-put-closed-spec =
+pub put-closed_spec : {M : Type 1} → statement M
+put-closed_spec =
     tie.close
     (tie.spec
     enum_told
-    slice-aggregate-put
-    put-requires
-    put-words-requires
-    left-done-requires
-    put-left-requires
-    enum-known-answer
-    put-refusal-requires
-    left-refused-requires
-    put-left-requires-2
+    slice_aggregate_put
+    put_requires
+    put-words_requires
+    left-done_requires
+    put-left_requires
+    enum_known-answer
+    put_refusal_requires
+    left-refused_requires
+    put-left_requires_2
     same_length
     returns
-    same-length-2
-    returns-2)
+    same-length_2
+    returns_2)

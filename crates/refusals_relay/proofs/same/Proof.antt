@@ -1,27 +1,27 @@
 -- `refusals_relay::same` meets its contract. Assumes nothing.
-use Rattle.refusals_relay.specs.Left.{stateLeft}
+use Rattle.refusals_relay.specs.Left.{state_left}
 use Rattle.std.proofs.Common.{rules}
 use Rattle.refusals_relay.proofs.same.Statement.{statement}
 use Rattle.refusals_relay.proofs.same.Tie as tie
 
-same-words-requires : tie.Need-same-words-requires
-same-words-requires c κs = search rules
+same-words_requires : tie.Need-same-words-requires
+same-words_requires c κs = search rules
 
 returns : tie.Need-returns
-unfolding stateLeft
+unfolding state_left
 returns c = rw (← c.before.same-words.ensures, c.if1.true)
 
-same-floats-requires : tie.Need-same-floats-requires
-same-floats-requires c κs = search rules
+same-floats_requires : tie.Need-same-floats-requires
+same-floats_requires c κs = search rules
 
-returns-2 : tie.Need-returns-2
-unfolding stateLeft
-returns-2 c = rw (← c.before.before.before.same-words.ensures, c.before.before.if1.false, ← c.before.same-floats.ensures, c.if2.true)
+returns_2 : tie.Need-returns-2
+unfolding state_left
+returns_2 c = rw (← c.before.before.before.same-words.ensures, c.before.before.if1.false, ← c.before.same-floats.ensures, c.if2.true)
 
-returns-3 : tie.Need-returns-3
-unfolding stateLeft
-returns-3 c = rw (← c.before.before.before.same-words.ensures, c.before.before.if1.false, ← c.before.same-floats.ensures, c.if2.false)
+returns_3 : tie.Need-returns-3
+unfolding state_left
+returns_3 c = rw (← c.before.before.before.same-words.ensures, c.before.before.if1.false, ← c.before.same-floats.ensures, c.if2.false)
 
 pub same_spec : {M : Type 1} → statement M
 same_spec =
-    tie.close (tie.spec same-words-requires returns same-floats-requires returns-2 returns-3)
+    tie.close (tie.spec same-words_requires returns same-floats_requires returns_2 returns_3)

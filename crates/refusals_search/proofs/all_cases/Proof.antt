@@ -3,59 +3,59 @@ use Rattle.std.proofs.Common.{rules}
 use Rattle.refusals_search.proofs.all_cases.Statement.{statement}
 use Rattle.refusals_search.proofs.all_cases.Tie as tie
 
-abbrev invariant-loop : tie.invariant-loop
-invariant-loop text turns₀ passed₀ cursor₀ turns passed cursor = Unit {0}
+abbrev invariant_loop : tie.invariant-loop
+invariant_loop text turns₀ passed₀ cursor₀ turns passed cursor = Unit {0}
 
-abbrev decreases-loop : tie.decreases-loop
-decreases-loop text turns₀ passed₀ cursor₀ turns passed cursor = turns
+abbrev decreases_loop : tie.decreases-loop
+decreases_loop text turns₀ passed₀ cursor₀ turns passed cursor = turns
 
-start-requires : tie.Need-start-requires invariant-loop decreases-loop
-start-requires c κs = search rules
+start_requires : tie.Need-start-requires invariant_loop decreases_loop
+start_requires c κs = search rules
 
-loop-holds : tie.Need-loop-init invariant-loop decreases-loop
-loop-holds c = tt
+loop_holds : tie.Need-loop-init invariant_loop decreases_loop
+loop_holds c = tt
 
-next-case-requires : tie.Need-next-case-requires invariant-loop decreases-loop
-next-case-requires c κs = search rules
+next_case_requires : tie.Need-next-case-requires invariant_loop decreases_loop
+next_case_requires c κs = search rules
 
-say-end-requires : tie.Need-say-end-requires invariant-loop decreases-loop
-say-end-requires c κs = search rules
+say_end_requires : tie.Need-say-end-requires invariant_loop decreases_loop
+say_end_requires c κs = search rules
 
-returns : tie.Need-returns invariant-loop decreases-loop
+returns : tie.Need-returns invariant_loop decreases_loop
 returns c = search rules
 
-wrapping-add-u32-requires : tie.Need-wrapping-add-u32-requires invariant-loop decreases-loop
-wrapping-add-u32-requires c κs = search rules
+wrapping_add_u32_requires : tie.Need-wrapping-add-u32-requires invariant_loop decreases_loop
+wrapping_add_u32_requires c κs = search rules
 
-one-case-requires : tie.Need-one-case-requires invariant-loop decreases-loop
-one-case-requires c κs = search rules
+one_case_requires : tie.Need-one-case-requires invariant_loop decreases_loop
+one_case_requires c κs = search rules
 
-sub-turns : tie.Need-overflow-sub-turns invariant-loop decreases-loop
+sub-turns : tie.Need-overflow-sub-turns invariant_loop decreases_loop
 sub-turns c = search rules
 
-loop-less : tie.Need-loop-smaller invariant-loop decreases-loop
-loop-less c = search rules
+loop_less : tie.Need-loop-smaller invariant_loop decreases_loop
+loop_less c = search rules
 
-loop-again : tie.Need-loop-preserved invariant-loop decreases-loop
-loop-again c = tt
+loop_again : tie.Need-loop-preserved invariant_loop decreases_loop
+loop_again c = tt
 
-returns-2 : tie.Need-returns-2 invariant-loop decreases-loop
-returns-2 c = search rules
+returns_2 : tie.Need-returns-2 invariant_loop decreases_loop
+returns_2 c = search rules
 
-pub all-cases-spec : {M : Type 1} → statement M
-all-cases-spec =
+pub all_cases_spec : {M : Type 1} → statement M
+all_cases_spec =
     tie.close
     (tie.spec
-    invariant-loop
-    decreases-loop
-    start-requires
-    loop-holds
-    next-case-requires
-    say-end-requires
+    invariant_loop
+    decreases_loop
+    start_requires
+    loop_holds
+    next_case_requires
+    say_end_requires
     returns
-    wrapping-add-u32-requires
-    one-case-requires
+    wrapping_add_u32_requires
+    one_case_requires
     sub-turns
-    loop-less
-    loop-again
-    returns-2)
+    loop_less
+    loop_again
+    returns_2)

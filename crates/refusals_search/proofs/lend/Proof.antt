@@ -3,44 +3,44 @@ use Rattle.std.proofs.Common.{arith, length-take, rules}
 use Rattle.refusals_search.proofs.lend.Statement.{statement}
 use Rattle.refusals_search.proofs.lend.Tie as tie
 
-least-requires : tie.Need-least-requires
-least-requires c κs = search rules
+least_requires : tie.Need-least-requires
+least_requires c κs = search rules
 
-least-requires-2 : tie.Need-least-requires-2
-least-requires-2 c κs = search rules
+least_requires_2 : tie.Need-least-requires-2
+least_requires_2 c κs = search rules
 
-least-requires-3 : tie.Need-least-requires-3
-least-requires-3 c κs = search rules
+least_requires_3 : tie.Need-least-requires-3
+least_requires_3 c κs = search rules
 
-least-requires-4 : tie.Need-least-requires-4
-least-requires-4 c κs = search rules
+least_requires_4 : tie.Need-least-requires-4
+least_requires_4 c κs = search rules
 
-array-borrow-prefix-nodes : tie.Need-array-borrow-prefix-nodes
-array-borrow-prefix-nodes c = search rules
+array_borrow_prefix_nodes : tie.Need-array-borrow-prefix-nodes
+array_borrow_prefix_nodes c = search rules
 
-slice-aggregate-called : tie.Need-slice-aggregate-called
-slice-aggregate-called c = simp length-take (omega arith)
+slice_aggregate_called : tie.Need-slice-aggregate-called
+slice_aggregate_called c = simp length-take (omega arith)
 
-array-borrow-prefix-bits : tie.Need-array-borrow-prefix-bits
-array-borrow-prefix-bits c = search rules
+array_borrow_prefix_bits : tie.Need-array-borrow-prefix-bits
+array_borrow_prefix_bits c = search rules
 
-slice-aggregate-called-2 : tie.Need-slice-aggregate-called-2
-slice-aggregate-called-2 c = simp length-take (omega arith)
+slice_aggregate_called_2 : tie.Need-slice-aggregate-called-2
+slice_aggregate_called_2 c = simp length-take (omega arith)
 
-array-borrow-prefix-words : tie.Need-array-borrow-prefix-words
-array-borrow-prefix-words c = search rules
+array_borrow_prefix_words : tie.Need-array-borrow-prefix-words
+array_borrow_prefix_words c = search rules
 
-slice-aggregate-called-3 : tie.Need-slice-aggregate-called-3
-slice-aggregate-called-3 c = simp length-take (omega arith)
+slice_aggregate_called_3 : tie.Need-slice-aggregate-called-3
+slice_aggregate_called_3 c = simp length-take (omega arith)
 
-array-borrow-prefix-floats : tie.Need-array-borrow-prefix-floats
-array-borrow-prefix-floats c = search rules
+array_borrow_prefix_floats : tie.Need-array-borrow-prefix-floats
+array_borrow_prefix_floats c = search rules
 
-slice-aggregate-called-4 : tie.Need-slice-aggregate-called-4
-slice-aggregate-called-4 c = simp length-take (omega arith)
+slice_aggregate_called_4 : tie.Need-slice-aggregate-called-4
+slice_aggregate_called_4 c = simp length-take (omega arith)
 
-called-requires : tie.Need-called-requires
-called-requires c κs = search rules
+called_requires : tie.Need-called-requires
+called_requires c κs = search rules
 
 returns : tie.Need-returns
 returns c = search rules
@@ -49,17 +49,17 @@ pub lend_spec : {M : Type 1} → statement M
 lend_spec =
     tie.close
     (tie.spec
-    least-requires
-    least-requires-2
-    least-requires-3
-    least-requires-4
-    array-borrow-prefix-nodes
-    slice-aggregate-called
-    array-borrow-prefix-bits
-    slice-aggregate-called-2
-    array-borrow-prefix-words
-    slice-aggregate-called-3
-    array-borrow-prefix-floats
-    slice-aggregate-called-4
-    called-requires
+    least_requires
+    least_requires_2
+    least_requires_3
+    least_requires_4
+    array_borrow_prefix_nodes
+    slice_aggregate_called
+    array_borrow_prefix_bits
+    slice_aggregate_called_2
+    array_borrow_prefix_words
+    slice_aggregate_called_3
+    array_borrow_prefix_floats
+    slice_aggregate_called_4
+    called_requires
     returns)

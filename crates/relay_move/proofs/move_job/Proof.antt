@@ -8,55 +8,55 @@ use Rattle.relay_move.proofs.move_job.Statement.{statement}
 use Rattle.relay_move.proofs.move_job.Tie as tie
 
 -- what the call was lent
-abbrev lentTo : tie.Start → MoveLent
-lentTo start = let a = start.args in lent a.n a.k a.job a.state-u.now a.state-f.now
+abbrev lent_to : tie.Start → MoveLent
+lent_to start = let a = start.args in lent a.n a.k a.job a.state_u.now a.state_f.now
 
-judge-requires : tie.Need-judge-requires
-judge-requires c κs = search rules
+judge_requires : tie.Need-judge-requires
+judge_requires c κs = search rules
 
-enum-known-v : tie.Need-enum-known-v
-enum-known-v c = search rules
+enum_known-v : tie.Need-enum-known-v
+enum_known-v c = search rules
 
 enum_told : tie.Need-enum-told
 enum_told c = search rules
 
-step-requires : tie.Need-step-requires
-step-requires c κs =
-    let l = lentTo c.before.before.before.before.before.before.before.before.before in
+step_requires : tie.Need-step-requires
+step_requires c κs =
+    let l = lent_to c.before.before.before.before.before.before.before.before.before in
     let p = ready l (no_row l c.before.before.before.before.judge.ensures c.before.before.enum_told.given.1) in
     ((p.sized, p.formed), (p.present, p.unfinished))
 
 same_length : tie.Need-same-length
 same_length c = search rules
 
-same-length-2 : tie.Need-same-length-2
-same-length-2 c = search rules
+same-length_2 : tie.Need-same-length-2
+same-length_2 c = search rules
 
 returns : tie.Need-returns
-returns c = moved-refused (lentTo c.before.before.before.before.before.before.before.before) c.before.before.before.judge.ensures c.before.v.given.1
+returns c = moved-refused (lent_to c.before.before.before.before.before.before.before.before) c.before.before.before.judge.ensures c.before.v.given.1
 
-same-length-3 : tie.Need-same-length-3
-same-length-3 c = search rules
+same-length_3 : tie.Need-same-length-3
+same-length_3 c = search rules
 
-same-length-4 : tie.Need-same-length-4
-same-length-4 c = search rules
+same-length_4 : tie.Need-same-length-4
+same-length_4 c = search rules
 
-returns-2 : tie.Need-returns-2
-returns-2 c =
-    let l = lentTo c.before.before.before.before.before.before.before.before.before.before.before.before.before.before in
+returns_2 : tie.Need-returns-2
+returns_2 c =
+    let l = lent_to c.before.before.before.before.before.before.before.before.before.before.before.before.before.before in
     moved-done l (no_row l c.before.before.before.before.before.before.before.before.before.judge.ensures c.before.before.before.before.before.before.before.enum_told.given.1) c.before.before.before.before.step.ensures
 
-pub move-job-spec : {M : Type 1} → statement M
-move-job-spec =
+pub move_job_spec : {M : Type 1} → statement M
+move_job_spec =
     tie.close
     (tie.spec
-    judge-requires
-    enum-known-v
+    judge_requires
+    enum_known-v
     enum_told
-    step-requires
+    step_requires
     same_length
-    same-length-2
+    same-length_2
     returns
-    same-length-3
-    same-length-4
-    returns-2)
+    same-length_3
+    same-length_4
+    returns_2)

@@ -6,8 +6,8 @@ use borrow.Author.Rules.{rules}
 use Rattle.relay_open.proofs.room_floats.Statement.{statement}
 use Rattle.relay_open.proofs.room_floats.Tie as tie
 
-copy-floats-requires : tie.Need-copy-floats-requires
-copy-floats-requires c κs = search rules
+copy_floats_requires : tie.Need-copy-floats-requires
+copy_floats_requires c κs = search rules
 
 mul-zero-floats : tie.Need-overflow-mul-zero-floats
 mul-zero-floats c = search rules
@@ -15,14 +15,14 @@ mul-zero-floats c = search rules
 sub-zero-floats : tie.Need-overflow-sub-zero-floats
 sub-zero-floats c = search rules
 
-part-zero-floats-start : tie.Need-slice-bounds-zero-floats-start
-part-zero-floats-start c = search rules
+part-zero-floats_start : tie.Need-slice-bounds-zero-floats-start
+part-zero-floats_start c = search rules
 
 part-zero-floats-end : tie.Need-slice-bounds-zero-floats-end
 part-zero-floats-end c = search rules
 
-zero-floats-requires : tie.Need-zero-floats-requires
-zero-floats-requires c κs = search rules
+zero-floats_requires : tie.Need-zero-floats-requires
+zero-floats_requires c κs = search rules
 
 same_length : tie.Need-same-length
 same_length c = search rules
@@ -32,15 +32,15 @@ returns c =
     let p = c.before.before.before.before.before.before.before.before.before.before.requires in
     roomed zero32 _ _ _ _ _ _ p.0 p.1 c.before.before.before.before.before.before.copy-floats.ensures refl c.before.before.zero-floats.ensures
 
-pub room-floats-spec : {M : Type 1} → statement M
-room-floats-spec =
+pub room-floats_spec : {M : Type 1} → statement M
+room-floats_spec =
     tie.close
     (tie.spec
-    copy-floats-requires
+    copy_floats_requires
     mul-zero-floats
     sub-zero-floats
-    part-zero-floats-start
+    part-zero-floats_start
     part-zero-floats-end
-    zero-floats-requires
+    zero-floats_requires
     same_length
     returns)

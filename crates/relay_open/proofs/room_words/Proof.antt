@@ -5,8 +5,8 @@ use borrow.Author.Rules.{rules}
 use Rattle.relay_open.proofs.room_words.Statement.{statement}
 use Rattle.relay_open.proofs.room_words.Tie as tie
 
-copy-words-requires : tie.Need-copy-words-requires
-copy-words-requires c κs = search rules
+copy_words_requires : tie.Need-copy-words-requires
+copy_words_requires c κs = search rules
 
 mul-zero-words : tie.Need-overflow-mul-zero-words
 mul-zero-words c = search rules
@@ -14,14 +14,14 @@ mul-zero-words c = search rules
 sub-zero-words : tie.Need-overflow-sub-zero-words
 sub-zero-words c = search rules
 
-part-zero-words-start : tie.Need-slice-bounds-zero-words-start
-part-zero-words-start c = search rules
+part-zero-words_start : tie.Need-slice-bounds-zero-words-start
+part-zero-words_start c = search rules
 
 part-zero-words-end : tie.Need-slice-bounds-zero-words-end
 part-zero-words-end c = search rules
 
-zero-words-requires : tie.Need-zero-words-requires
-zero-words-requires c κs = search rules
+zero-words_requires : tie.Need-zero-words-requires
+zero-words_requires c κs = search rules
 
 same_length : tie.Need-same-length
 same_length c = search rules
@@ -31,15 +31,15 @@ returns c =
     let p = c.before.before.before.before.before.before.before.before.before.before.requires in
     roomed 0 _ _ _ _ _ _ p.0 p.1 c.before.before.before.before.before.before.copy-words.ensures refl c.before.before.zero-words.ensures
 
-pub room-words-spec : {M : Type 1} → statement M
-room-words-spec =
+pub room-words_spec : {M : Type 1} → statement M
+room-words_spec =
     tie.close
     (tie.spec
-    copy-words-requires
+    copy_words_requires
     mul-zero-words
     sub-zero-words
-    part-zero-words-start
+    part-zero-words_start
     part-zero-words-end
-    zero-words-requires
+    zero-words_requires
     same_length
     returns)

@@ -7,119 +7,119 @@ use Rattle.rules.specs.Loops.{each, part}
 use Rattle.rules.specs.Places.{padded}
 use borrow.Author.Rules.{rules}
 use Rattle.relay_close.proofs.Blocks.{Blocks}
-use Rattle.relay_open.proofs.Rooms.{rooms-long, Where, where-is, rooms-none, rooms-turn, rooms-end}
+use Rattle.relay_open.proofs.Rooms.{rooms_long, Where, where_is, rooms_none, rooms_turn, rooms_end}
 use Rattle.relay_open.proofs.rooms_words.Statement.{statement}
 use Rattle.relay_open.proofs.rooms_words.Tie as tie
 
-abbrev invariant-loop : tie.invariant-loop
-invariant-loop n k src dst₀ room w₀ dst w = (w ≤ n) × Blocks (each (λ (v : ℕ). padded (k + 64) 0 (part k v src)) n) (k + 64) w dst
+abbrev invariant_loop : tie.invariant-loop
+invariant_loop n k src dst₀ room w₀ dst w = (w ≤ n) × Blocks (each (λ (v : ℕ). padded (k + 64) 0 (part k v src)) n) (k + 64) w dst
 
-abbrev decreases-loop : tie.decreases-loop
-decreases-loop n k src dst₀ room w₀ dst w = n - w
+abbrev decreases_loop : tie.decreases-loop
+decreases_loop n k src dst₀ room w₀ dst w = n - w
 
-add-room : tie.Need-overflow-add-room invariant-loop decreases-loop
+add-room : tie.Need-overflow-add-room invariant_loop decreases_loop
 add-room c = let size = c.before.before.requires.1 in omega arith
 
-loop-holds : tie.Need-loop-init invariant-loop decreases-loop
-loop-holds c = let p = c.before.before.requires in (search rules, rooms-none 0 _ _ p.0 p.1 _ p.2 _ p.3)
+loop_holds : tie.Need-loop-init invariant_loop decreases_loop
+loop_holds c = let p = c.before.before.requires in (search rules, rooms_none 0 _ _ p.0 p.1 _ p.2 _ p.3)
 
 -- where the list that is copied lies, and where its room
-top : (c : tie.In-loop invariant-loop decreases-loop) → Where 0 c.before.before.before.before.args.n c.before.before.before.before.args.k c.before.before.before.before.requires.0 c.before.before.before.before.requires.1 c.before.before.before.before.args.src.now c.before.before.before.before.requires.2 c.before.loop.w
-top c = let p = c.before.before.before.before.requires in where-is 0 _ _ p.0 p.1 c.before.before.before.before.args.src.now p.2 _ c.loop-test.true
+top : (c : tie.In-loop invariant_loop decreases_loop) → Where 0 c.before.before.before.before.args.n c.before.before.before.before.args.k c.before.before.before.before.requires.0 c.before.before.before.before.requires.1 c.before.before.before.before.args.src.now c.before.before.before.before.requires.2 c.before.loop.w
+top c = let p = c.before.before.before.before.requires in where_is 0 _ _ p.0 p.1 c.before.before.before.before.args.src.now p.2 _ c.loop-test.true
 
-long-now : (c : tie.In-loop invariant-loop decreases-loop) → length c.before.loop.dst ≡ c.before.before.before.before.args.n * (c.before.before.before.before.args.k + 64)
-long-now c = let p = c.before.before.before.before.requires in c.before.loop.invariant.1.long ∙ rooms-long 0 _ _ p.0 p.1 c.before.before.before.before.args.src.now p.2
+long_now : (c : tie.In-loop invariant_loop decreases_loop) → length c.before.loop.dst ≡ c.before.before.before.before.args.n * (c.before.before.before.before.args.k + 64)
+long_now c = let p = c.before.before.before.before.requires in c.before.loop.invariant.1.long ∙ rooms_long 0 _ _ p.0 p.1 c.before.before.before.before.args.src.now p.2
 
-mul_at : tie.Need-overflow-mul-at invariant-loop decreases-loop
+mul_at : tie.Need-overflow-mul-at invariant_loop decreases_loop
 mul_at c = let b = top c in omega arith
 
-add-end : tie.Need-overflow-add-end invariant-loop decreases-loop
+add-end : tie.Need-overflow-add-end invariant_loop decreases_loop
 add-end c = let b = top c in omega arith
 
-mul-from : tie.Need-overflow-mul-from invariant-loop decreases-loop
+mul-from : tie.Need-overflow-mul-from invariant_loop decreases_loop
 mul-from c = let b = top c in omega arith
 
-add-to : tie.Need-overflow-add-to invariant-loop decreases-loop
+add-to : tie.Need-overflow-add-to invariant_loop decreases_loop
 add-to c = let b = top c in omega arith
 
-mul-room-words : tie.Need-overflow-mul-room-words invariant-loop decreases-loop
+mul-room-words : tie.Need-overflow-mul-room-words invariant_loop decreases_loop
 mul-room-words c = let b = top c in omega arith
 
-sub-room-words : tie.Need-overflow-sub-room-words invariant-loop decreases-loop
+sub-room-words : tie.Need-overflow-sub-room-words invariant_loop decreases_loop
 sub-room-words c = let b = top c in omega arith
 
-part-room-words-start : tie.Need-slice-bounds-room-words-start invariant-loop decreases-loop
-part-room-words-start c = let b = top c in omega arith
+part-room-words_start : tie.Need-slice-bounds-room-words-start invariant_loop decreases_loop
+part-room-words_start c = let b = top c in omega arith
 
-part-room-words-end : tie.Need-slice-bounds-room-words-end invariant-loop decreases-loop
+part-room-words-end : tie.Need-slice-bounds-room-words-end invariant_loop decreases_loop
 part-room-words-end c = let b = top c in let long = c.before.before.before.before.requires.2 in omega arith
 
-mul-room-words-2 : tie.Need-overflow-mul-room-words-2 invariant-loop decreases-loop
-mul-room-words-2 c = let b = top c.before in omega arith
+mul-room-words_2 : tie.Need-overflow-mul-room-words-2 invariant_loop decreases_loop
+mul-room-words_2 c = let b = top c.before in omega arith
 
-sub-room-words-2 : tie.Need-overflow-sub-room-words-2 invariant-loop decreases-loop
-sub-room-words-2 c = let b = top c.before in omega arith
+sub-room-words_2 : tie.Need-overflow-sub-room-words-2 invariant_loop decreases_loop
+sub-room-words_2 c = let b = top c.before in omega arith
 
-part-room-words-start-2 : tie.Need-slice-bounds-room-words-start-2 invariant-loop decreases-loop
-part-room-words-start-2 c = let b = top c.before in omega arith
+part-room-words_start_2 : tie.Need-slice-bounds-room-words-start-2 invariant_loop decreases_loop
+part-room-words_start_2 c = let b = top c.before in omega arith
 
-part-room-words-end-2 : tie.Need-slice-bounds-room-words-end-2 invariant-loop decreases-loop
-part-room-words-end-2 c = let b = top c.before in let l = long-now c.before in omega arith
+part-room-words-end_2 : tie.Need-slice-bounds-room-words-end-2 invariant_loop decreases_loop
+part-room-words-end_2 c = let b = top c.before in let l = long_now c.before in omega arith
 
-room-words-requires : tie.Need-room-words-requires invariant-loop decreases-loop
-room-words-requires c κs =
+room-words_requires : tie.Need-room-words-requires invariant_loop decreases_loop
+room-words_requires c κs =
     let b = top c.before.before in
     let read = b.read in
     let written = b.written in
-    let l = long-now c.before.before in
+    let l = long_now c.before.before in
     let long = c.before.before.before.before.before.before.requires.2 in
     (simp (length-take, length-drop) (omega arith), simp (length-take, length-drop) (omega arith))
 
-add-w : tie.Need-overflow-add-w invariant-loop decreases-loop
-add-w c = search rules
+add_w : tie.Need-overflow-add-w invariant_loop decreases_loop
+add_w c = search rules
 
-loop-less : tie.Need-loop-smaller invariant-loop decreases-loop
-loop-less c = search rules
+loop_less : tie.Need-loop-smaller invariant_loop decreases_loop
+loop_less c = search rules
 
-loop-again : tie.Need-loop-preserved invariant-loop decreases-loop
-loop-again c =
+loop_again : tie.Need-loop-preserved invariant_loop decreases_loop
+loop_again c =
     let start = c.before.before.before.before.before.before.before.before.before in
     let p = start.requires in
     let w = c.before.before.before.before.before.before.loop.w in
     let k = start.args.k in
     let e : w * (k + 64) + (k + 64) - w * (k + 64) ≡ k + 64 = omega arith in
     let f : w * k + k - w * k ≡ k = omega arith in
-    (search rules, rooms-turn 0 _ _ p.0 p.1 start.args.src.now p.2 c.before.before.before.before.before.before.loop.invariant.1 c.before.before.before.before.before.loop-test.true _ _ f e c.before.before.room-words.ensures)
+    (search rules, rooms_turn 0 _ _ p.0 p.1 start.args.src.now p.2 c.before.before.before.before.before.before.loop.invariant.1 c.before.before.before.before.before.loop-test.true _ _ f e c.before.before.room-words.ensures)
 
-same_length : tie.Need-same-length invariant-loop decreases-loop
-same_length c = let p = c.before.before.before.before.requires in c.before.loop.invariant.1.long ∙ rooms-long 0 _ _ p.0 p.1 c.before.before.before.before.args.src.now p.2 ∙ sym p.3
+same_length : tie.Need-same-length invariant_loop decreases_loop
+same_length c = let p = c.before.before.before.before.requires in c.before.loop.invariant.1.long ∙ rooms_long 0 _ _ p.0 p.1 c.before.before.before.before.args.src.now p.2 ∙ sym p.3
 
-returns : tie.Need-returns invariant-loop decreases-loop
-returns c = let p = c.before.before.before.before.requires in rooms-end 0 _ _ p.0 p.1 c.before.before.before.before.args.src.now p.2 c.loop-test.false c.before.loop.invariant.1
+returns : tie.Need-returns invariant_loop decreases_loop
+returns c = let p = c.before.before.before.before.requires in rooms_end 0 _ _ p.0 p.1 c.before.before.before.before.args.src.now p.2 c.loop-test.false c.before.loop.invariant.1
 
-pub rooms-words-spec : {M : Type 1} → statement M
-rooms-words-spec =
+pub rooms_words_spec : {M : Type 1} → statement M
+rooms_words_spec =
     tie.close
     (tie.spec
-    invariant-loop
-    decreases-loop
+    invariant_loop
+    decreases_loop
     add-room
-    loop-holds
+    loop_holds
     mul_at
     add-end
     mul-from
     add-to
     mul-room-words
     sub-room-words
-    part-room-words-start
+    part-room-words_start
     part-room-words-end
-    mul-room-words-2
-    sub-room-words-2
-    part-room-words-start-2
-    part-room-words-end-2
-    room-words-requires
-    add-w
-    loop-less
-    loop-again
+    mul-room-words_2
+    sub-room-words_2
+    part-room-words_start_2
+    part-room-words-end_2
+    room-words_requires
+    add_w
+    loop_less
+    loop_again
     same_length
     returns)

@@ -7,23 +7,23 @@ use borrow.Author.Rules.{rules}
 use Rattle.relay_open.proofs.write_dists.Statement.{statement}
 use Rattle.relay_open.proofs.write_dists.Tie as tie
 
-add-lens : tie.Need-overflow-add-lens
-add-lens c = search rules
+add_lens : tie.Need-overflow-add-lens
+add_lens c = search rules
 
-mul-lens : tie.Need-overflow-mul-lens
-mul-lens c = search rules
+mul_lens : tie.Need-overflow-mul-lens
+mul_lens c = search rules
 
-sub-rooms-floats : tie.Need-overflow-sub-rooms-floats
-sub-rooms-floats c = search rules
+sub_rooms_floats : tie.Need-overflow-sub-rooms-floats
+sub_rooms_floats c = search rules
 
-part-rooms-floats-start : tie.Need-slice-bounds-rooms-floats-start
-part-rooms-floats-start c = search rules
+part_rooms_floats_start : tie.Need-slice-bounds-rooms-floats-start
+part_rooms_floats_start c = search rules
 
-part-rooms-floats-end : tie.Need-slice-bounds-rooms-floats-end
-part-rooms-floats-end c = search rules
+part_rooms_floats-end : tie.Need-slice-bounds-rooms-floats-end
+part_rooms_floats-end c = search rules
 
-rooms-floats-requires : tie.Need-rooms-floats-requires
-rooms-floats-requires c κs = search rules
+rooms_floats_requires : tie.Need-rooms-floats-requires
+rooms_floats_requires c κs = search rules
 
 same_length : tie.Need-same-length
 same_length c = search rules
@@ -37,15 +37,15 @@ returns c =
     let ha : n * (k + 64) - 0 ≡ n * (k + 64) = omega arith in
     dists-put n k p.0 p.1 start.args.distances.now start.args.floats.now _ _ p.2 p.3 ha c.before.before.rooms-floats.ensures
 
-pub write-dists-spec : {M : Type 1} → statement M
-write-dists-spec =
+pub write_dists_spec : {M : Type 1} → statement M
+write_dists_spec =
     tie.close
     (tie.spec
-    add-lens
-    mul-lens
-    sub-rooms-floats
-    part-rooms-floats-start
-    part-rooms-floats-end
-    rooms-floats-requires
+    add_lens
+    mul_lens
+    sub_rooms_floats
+    part_rooms_floats_start
+    part_rooms_floats-end
+    rooms_floats_requires
     same_length
     returns)

@@ -1,34 +1,34 @@
 -- `relay_opening::wrong_places` meets its contract. Assumes nothing.
 use native.Mathlib.Omega.{arith}
-use Rattle.relay_opening.proofs.Table.{sizes-most, wrong-words, wrong-floats, wrong-scratch, wrong-last}
+use Rattle.relay_opening.proofs.Table.{sizes-most, wrong_words, wrong_floats, wrong_scratch, wrong_last}
 use borrow.Author.Rules.{rules}
 use borrow.Author.Rules.{rules}
 use Rattle.relay_opening.proofs.wrong_places.Statement.{statement}
 use Rattle.relay_opening.proofs.wrong_places.Tie as tie
 
-add-if1 : tie.Need-overflow-add-if1
-add-if1 c = search rules
+add_if1 : tie.Need-overflow-add-if1
+add_if1 c = search rules
 
-mul-if1 : tie.Need-overflow-mul-if1
-mul-if1 c = let p = sizes-most _ _ c.requires.0 c.requires.1 in omega arith
+mul_if1 : tie.Need-overflow-mul-if1
+mul_if1 c = let p = sizes-most _ _ c.requires.0 c.requires.1 in omega arith
 
-add-if1-2 : tie.Need-overflow-add-if1-2
-add-if1-2 c = let p = sizes-most _ _ c.requires.0 c.requires.1 in omega arith
+add_if1_2 : tie.Need-overflow-add-if1-2
+add_if1_2 c = let p = sizes-most _ _ c.requires.0 c.requires.1 in omega arith
 
 returns : tie.Need-returns
-returns c = wrong-words _ _ _ _ _ _ c.if1.true
+returns c = wrong_words _ _ _ _ _ _ c.if1.true
 
-add-if2 : tie.Need-overflow-add-if2
-add-if2 c = search rules
+add_if2 : tie.Need-overflow-add-if2
+add_if2 c = search rules
 
-mul-if2 : tie.Need-overflow-mul-if2
-mul-if2 c = search rules
+mul_if2 : tie.Need-overflow-mul-if2
+mul_if2 c = search rules
 
-add-if2-2 : tie.Need-overflow-add-if2-2
-add-if2-2 c = search rules
+add_if2_2 : tie.Need-overflow-add-if2-2
+add_if2_2 c = search rules
 
-returns-2 : tie.Need-returns-2
-returns-2 c = wrong-floats _ _ _ _ _ _ c.before.if1.false c.if2.true
+returns_2 : tie.Need-returns-2
+returns_2 c = wrong_floats _ _ _ _ _ _ c.before.if1.false c.if2.true
 
 mul-least : tie.Need-overflow-mul-least
 mul-least c = search rules
@@ -36,25 +36,25 @@ mul-least c = search rules
 add-least : tie.Need-overflow-add-least
 add-least c = search rules
 
-returns-3 : tie.Need-returns-3
-returns-3 c = wrong-scratch _ _ _ _ _ _ c.before.before.if1.false c.before.if2.false c.if3.true
+returns_3 : tie.Need-returns-3
+returns_3 c = wrong_scratch _ _ _ _ _ _ c.before.before.if1.false c.before.if2.false c.if3.true
 
-returns-4 : tie.Need-returns-4
-returns-4 c = wrong-last _ _ _ _ _ _ c.before.before.if1.false c.before.if2.false c.if3.false
+returns_4 : tie.Need-returns-4
+returns_4 c = wrong_last _ _ _ _ _ _ c.before.before.if1.false c.before.if2.false c.if3.false
 
-pub wrong-places-spec : {M : Type 1} → statement M
-wrong-places-spec =
+pub wrong_places_spec : {M : Type 1} → statement M
+wrong_places_spec =
     tie.close
     (tie.spec
-    add-if1
-    mul-if1
-    add-if1-2
+    add_if1
+    mul_if1
+    add_if1_2
     returns
-    add-if2
-    mul-if2
-    add-if2-2
-    returns-2
+    add_if2
+    mul_if2
+    add_if2_2
+    returns_2
     mul-least
     add-least
-    returns-3
-    returns-4)
+    returns_3
+    returns_4)

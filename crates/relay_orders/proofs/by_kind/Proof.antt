@@ -3,39 +3,39 @@ use Rattle.std.proofs.Common.{arith, length-take, rules}
 use Rattle.relay_orders.proofs.by_kind.Statement.{statement}
 use Rattle.relay_orders.proofs.by_kind.Tie as tie
 
-area-requires : tie.Need-area-requires
-area-requires c κs = search rules
+area_requires : tie.Need-area-requires
+area_requires c κs = search rules
 
-least-requires : tie.Need-least-requires
-least-requires c κs = search rules
+least_requires : tie.Need-least-requires
+least_requires c κs = search rules
 
-array-borrow-prefix-order : tie.Need-array-borrow-prefix-order
-array-borrow-prefix-order c = search rules
+array_borrow_prefix_order : tie.Need-array-borrow-prefix-order
+array_borrow_prefix_order c = search rules
 
-slice-aggregate-in-order : tie.Need-slice-aggregate-in-order
-slice-aggregate-in-order c = simp length-take (omega arith)
+slice_aggregate_in_order : tie.Need-slice-aggregate-in-order
+slice_aggregate_in_order c = simp length-take (omega arith)
 
-in-order-requires : tie.Need-in-order-requires
-in-order-requires c κs = search rules
+in_order_requires : tie.Need-in-order-requires
+in_order_requires c κs = search rules
 
 same_length : tie.Need-same-length
 same_length c = search rules
 
-same-length-2 : tie.Need-same-length-2
-same-length-2 c = search rules
+same-length_2 : tie.Need-same-length-2
+same-length_2 c = search rules
 
 returns : tie.Need-returns
 returns c = search rules
 
-pub by-kind-spec : {M : Type 1} → statement M
-by-kind-spec =
+pub by_kind_spec : {M : Type 1} → statement M
+by_kind_spec =
     tie.close
     (tie.spec
-    area-requires
-    least-requires
-    array-borrow-prefix-order
-    slice-aggregate-in-order
-    in-order-requires
+    area_requires
+    least_requires
+    array_borrow_prefix_order
+    slice_aggregate_in_order
+    in_order_requires
     same_length
-    same-length-2
+    same-length_2
     returns)

@@ -2,80 +2,80 @@
 use mathlib.Core.Path.{refl}
 use Prim.Native.Nat.{◌-◌, ◌<◌}
 use native.Mathlib.Omega.{arith}
-use Rattle.rules.specs.Distance.{nodesApart}
-use Rattle.rules.specs.Refusals.{jobCount, decisionOf, code_of}
-use Rattle.relay_rows.proofs.Laws.{Measuring, measuring-none, measuring-found, measuring-turn, measuring-end}
+use Rattle.rules.specs.Distance.{nodes_apart}
+use Rattle.rules.specs.Refusals.{job_count, decision_of, code_of}
+use Rattle.relay_rows.proofs.Laws.{Measuring, measuring_none, measuring_found, measuring_turn, measuring_end}
 use borrow.Author.Rules.{rules}
 use Rattle.relay_rows.proofs.unfit_row.Statement.{statement}
 use Rattle.relay_rows.proofs.unfit_row.Tie as tie
 
-abbrev invariant-loop : tie.invariant-loop
-invariant-loop lanes dimension n jobs count i₀ i = Measuring (nodesApart lanes dimension) count jobs i
+abbrev invariant_loop : tie.invariant-loop
+invariant_loop lanes dimension n jobs count i₀ i = Measuring (nodes_apart lanes dimension) count jobs i
 
-abbrev decreases-loop : tie.decreases-loop
-decreases-loop lanes dimension n jobs count i₀ i = count - i
+abbrev decreases_loop : tie.decreases-loop
+decreases_loop lanes dimension n jobs count i₀ i = count - i
 
-loop-holds : tie.Need-loop-init invariant-loop decreases-loop
-loop-holds c = measuring-none refl
+loop_holds : tie.Need-loop-init invariant_loop decreases_loop
+loop_holds c = measuring_none refl
 
-mul-u : tie.Need-overflow-mul-u invariant-loop decreases-loop
+mul-u : tie.Need-overflow-mul-u invariant_loop decreases_loop
 mul-u c = let t = c.loop-test.true in let all = c.before.loop.invariant.all in search rules
 
-mul-u-2 : tie.Need-overflow-mul-u-2 invariant-loop decreases-loop
-mul-u-2 c = let t = c.loop-test.true in let all = c.before.loop.invariant.all in search rules
+mul-u_2 : tie.Need-overflow-mul-u-2 invariant_loop decreases_loop
+mul-u_2 c = let t = c.loop-test.true in let all = c.before.loop.invariant.all in search rules
 
-shared-slice-read-u : tie.Need-shared-slice-read-u invariant-loop decreases-loop
-shared-slice-read-u c = let t = c.before.loop-test.true in let all = c.before.before.loop.invariant.all in omega arith
+shared_slice_read-u : tie.Need-shared-slice-read-u invariant_loop decreases_loop
+shared_slice_read-u c = let t = c.before.loop-test.true in let all = c.before.before.loop.invariant.all in omega arith
 
-mul-v : tie.Need-overflow-mul-v invariant-loop decreases-loop
+mul-v : tie.Need-overflow-mul-v invariant_loop decreases_loop
 mul-v c = let t = c.before.loop-test.true in let all = c.before.before.loop.invariant.all in search rules
 
-add-v : tie.Need-overflow-add-v invariant-loop decreases-loop
+add-v : tie.Need-overflow-add-v invariant_loop decreases_loop
 add-v c = let t = c.before.loop-test.true in let all = c.before.before.loop.invariant.all in search rules
 
-mul-v-2 : tie.Need-overflow-mul-v-2 invariant-loop decreases-loop
-mul-v-2 c = let t = c.before.loop-test.true in let all = c.before.before.loop.invariant.all in search rules
+mul-v_2 : tie.Need-overflow-mul-v-2 invariant_loop decreases_loop
+mul-v_2 c = let t = c.before.loop-test.true in let all = c.before.before.loop.invariant.all in search rules
 
-shared-slice-read-v : tie.Need-shared-slice-read-v invariant-loop decreases-loop
-shared-slice-read-v c = let t = c.before.before.loop-test.true in let all = c.before.before.before.loop.invariant.all in omega arith
+shared_slice_read-v : tie.Need-shared-slice-read-v invariant_loop decreases_loop
+shared_slice_read-v c = let t = c.before.before.loop-test.true in let all = c.before.before.before.loop.invariant.all in omega arith
 
-unfit-job-requires : tie.Need-unfit-job-requires invariant-loop decreases-loop
-unfit-job-requires c κs = let p = c.before.before.before.before.before.before.requires in let all = c.before.before.before.loop.invariant.all in let t = c.before.before.loop-test.true in let h : c.before.before.before.loop.i < jobCount c.before.before.before.before.before.before.args.jobs.now = omega arith in (p.0, p.1.us _ h, p.1.vs _ h)
+unfit-job_requires : tie.Need-unfit-job-requires invariant_loop decreases_loop
+unfit-job_requires c κs = let p = c.before.before.before.before.before.before.requires in let all = c.before.before.before.loop.invariant.all in let t = c.before.before.loop-test.true in let h : c.before.before.before.loop.i < job_count c.before.before.before.before.before.before.args.jobs.now = omega arith in (p.0, p.1.us _ h, p.1.vs _ h)
 
-returns : tie.Need-returns invariant-loop decreases-loop
-unfolding decisionOf code_of
-returns c = measuring-found c.before.before.before.before.before.loop.invariant c.before.before.before.before.loop-test.true c.before.unfit-job.ensures c.if1.true
+returns : tie.Need-returns invariant_loop decreases_loop
+unfolding decision_of code_of
+returns c = measuring_found c.before.before.before.before.before.loop.invariant c.before.before.before.before.loop-test.true c.before.unfit-job.ensures c.if1.true
 
-add-i : tie.Need-overflow-add-i invariant-loop decreases-loop
-add-i c = search rules
+add_i : tie.Need-overflow-add-i invariant_loop decreases_loop
+add_i c = search rules
 
-loop-less : tie.Need-loop-smaller invariant-loop decreases-loop
-loop-less c = search rules
+loop_less : tie.Need-loop-smaller invariant_loop decreases_loop
+loop_less c = search rules
 
-loop-again : tie.Need-loop-preserved invariant-loop decreases-loop
-loop-again c = measuring-turn c.before.before.before.before.before.loop.invariant c.before.before.before.before.loop-test.true c.before.unfit-job.ensures c.if1.false
+loop_again : tie.Need-loop-preserved invariant_loop decreases_loop
+loop_again c = measuring_turn c.before.before.before.before.before.loop.invariant c.before.before.before.before.loop-test.true c.before.unfit-job.ensures c.if1.false
 
-returns-2 : tie.Need-returns-2 invariant-loop decreases-loop
-unfolding decisionOf code_of
-returns-2 c = measuring-end c.before.loop.invariant c.loop-test.false
+returns_2 : tie.Need-returns-2 invariant_loop decreases_loop
+unfolding decision_of code_of
+returns_2 c = measuring_end c.before.loop.invariant c.loop-test.false
 
-pub unfit-row-spec : {M : Type 1} → statement M
-unfit-row-spec =
+pub unfit-row_spec : {M : Type 1} → statement M
+unfit-row_spec =
     tie.close
     (tie.spec
-    invariant-loop
-    decreases-loop
-    loop-holds
+    invariant_loop
+    decreases_loop
+    loop_holds
     mul-u
-    mul-u-2
-    shared-slice-read-u
+    mul-u_2
+    shared_slice_read-u
     mul-v
     add-v
-    mul-v-2
-    shared-slice-read-v
-    unfit-job-requires
+    mul-v_2
+    shared_slice_read-v
+    unfit-job_requires
     returns
-    add-i
-    loop-less
-    loop-again
-    returns-2)
+    add_i
+    loop_less
+    loop_again
+    returns_2)

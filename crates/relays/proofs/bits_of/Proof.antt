@@ -7,11 +7,11 @@ use Rattle.relays.proofs.bits_of.Tie as tie
 returns : tie.Need-returns
 returns c = nan-bits _ c.if1.true
 
-float-to-bits-result : tie.Need-float-to-bits-result
-float-to-bits-result c = number _ c.if1.false
+float_to-bits_result : tie.Need-float-to-bits-result
+float_to-bits_result c = number _ c.if1.false
 
-returns-2 : tie.Need-returns-2
-returns-2 c = own_bits _ c.if1.false
+returns_2 : tie.Need-returns-2
+returns_2 c = own_bits _ c.if1.false
 
-pub bits-of-spec : {M : Type 1} → statement M
-bits-of-spec = tie.close (tie.spec returns float-to-bits-result returns-2)
+pub bits_of_spec : {M : Type 1} → statement M
+bits_of_spec = tie.close (tie.spec returns float_to-bits_result returns_2)

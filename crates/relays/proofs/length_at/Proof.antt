@@ -4,19 +4,19 @@ use Rattle.std.proofs.Common.{rules}
 use Rattle.relays.proofs.length_at.Statement.{statement}
 use Rattle.relays.proofs.length_at.Tie as tie
 
-sum-requires : tie.Need-sum-requires
-sum-requires c κs = search rules
+sum_requires : tie.Need-sum-requires
+sum_requires c κs = search rules
 
-area-requires : tie.Need-area-requires
-area-requires c κs = search rules
+area_requires : tie.Need-area-requires
+area_requires c κs = search rules
 
-sum-requires-2 : tie.Need-sum-requires-2
-sum-requires-2 c κs = search rules
+sum_requires_2 : tie.Need-sum-requires-2
+sum_requires_2 c κs = search rules
 
 returns : tie.Need-returns
 unfolding length_at
 returns c = rw (← c.before.before.sum.ensures, ← c.before.area.ensures.0) c.sum2.ensures
 
-pub length-at-spec : {M : Type 1} → statement M
-length-at-spec =
-    tie.close (tie.spec sum-requires area-requires sum-requires-2 returns)
+pub length-at_spec : {M : Type 1} → statement M
+length-at_spec =
+    tie.close (tie.spec sum_requires area_requires sum_requires_2 returns)

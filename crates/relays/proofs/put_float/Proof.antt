@@ -7,8 +7,8 @@ use Rattle.relays.proofs.put_float.Tie as tie
 mul-floats : tie.Need-overflow-mul-floats
 mul-floats c = search rules
 
-slice-write-floats : tie.Need-slice-write-floats
-slice-write-floats c = search rules
+slice_write_floats : tie.Need-slice-write-floats
+slice_write_floats c = search rules
 
 same_length : tie.Need-same-length
 same_length c = search rules
@@ -16,8 +16,8 @@ same_length c = search rules
 returns : tie.Need-returns
 returns c = search rules
 
-returns-2 : tie.Need-returns-2
-returns-2 c = sym (set_out _ _ _ (search rules))
+returns_2 : tie.Need-returns-2
+returns_2 c = sym (set_out _ _ _ (search rules))
 
-pub put-float-spec : {M : Type 1} → statement M
-put-float-spec = tie.close (tie.spec mul-floats slice-write-floats same_length returns returns-2)
+pub put_float_spec : {M : Type 1} → statement M
+put_float_spec = tie.close (tie.spec mul-floats slice_write_floats same_length returns returns_2)

@@ -16,14 +16,14 @@ mul-marks c = search rules
 add-marks : tie.Need-overflow-add-marks
 add-marks c = search rules
 
-slice-aggregate-renew-all : tie.Need-slice-aggregate-renew-all
-slice-aggregate-renew-all c = search rules
+slice_aggregate_renew-all : tie.Need-slice-aggregate-renew-all
+slice_aggregate_renew-all c = search rules
 
-renew-all-requires : tie.Need-renew-all-requires
-renew-all-requires c κs = search rules
+renew-all_requires : tie.Need-renew-all-requires
+renew-all_requires c κs = search rules
 
-unvisit-all-requires : tie.Need-unvisit-all-requires
-unvisit-all-requires c κs =
+unvisit-all_requires : tie.Need-unvisit-all-requires
+unvisit-all_requires c κs =
     let start = c.before.before.before.before.before.before.before.before.before.before.before.before in
     let p = start.requires in
     let R = c.before.before.before.before.before.renew-all.ensures in
@@ -32,29 +32,29 @@ unvisit-all-requires c κs =
     let room = p.3 in
     (L.few, L.words, walkable _ _ _ _ L R (omega arith) p.1)
 
-mul-copy-words : tie.Need-overflow-mul-copy-words
-mul-copy-words c = search rules
+mul_copy_words : tie.Need-overflow-mul-copy-words
+mul_copy_words c = search rules
 
-mul-copy-words-2 : tie.Need-overflow-mul-copy-words-2
-mul-copy-words-2 c = search rules
+mul_copy_words_2 : tie.Need-overflow-mul-copy-words-2
+mul_copy_words_2 c = search rules
 
-sub-copy-words : tie.Need-overflow-sub-copy-words
-sub-copy-words c = search rules
+sub_copy_words : tie.Need-overflow-sub-copy-words
+sub_copy_words c = search rules
 
-part-copy-words-start : tie.Need-slice-bounds-copy-words-start
-part-copy-words-start c = search rules
+part_copy_words_start : tie.Need-slice-bounds-copy-words-start
+part_copy_words_start c = search rules
 
-part-copy-words-end : tie.Need-slice-bounds-copy-words-end
-part-copy-words-end c = search rules
+part_copy_words-end : tie.Need-slice-bounds-copy-words-end
+part_copy_words-end c = search rules
 
-copy-words-requires : tie.Need-copy-words-requires
-copy-words-requires c κs = search rules
+copy_words_requires : tie.Need-copy-words-requires
+copy_words_requires c κs = search rules
 
 same_length : tie.Need-same-length
 same_length c = search rules
 
-same-length-2 : tie.Need-same-length-2
-same-length-2 c = search rules
+same-length_2 : tie.Need-same-length-2
+same-length_2 c = search rules
 
 returns : tie.Need-returns
 returns c =
@@ -67,22 +67,22 @@ returns c =
     let e : a.n * a.k + 260 * a.n - a.n * a.k ≡ 260 * a.n = omega arith in
     lists-renewed _ _ _ _ p.0 R (omega arith) c.before.before.before.before.before.before.before.unvisit-all.ensures e c.before.before.copy-words.ensures
 
-pub renew-lists-spec : {M : Type 1} → statement M
-renew-lists-spec =
+pub renew-lists_spec : {M : Type 1} → statement M
+renew-lists_spec =
     tie.close
     (tie.spec
     mul-lists
     mul-marks
     add-marks
-    slice-aggregate-renew-all
-    renew-all-requires
-    unvisit-all-requires
-    mul-copy-words
-    mul-copy-words-2
-    sub-copy-words
-    part-copy-words-start
-    part-copy-words-end
-    copy-words-requires
+    slice_aggregate_renew-all
+    renew-all_requires
+    unvisit-all_requires
+    mul_copy_words
+    mul_copy_words_2
+    sub_copy_words
+    part_copy_words_start
+    part_copy_words-end
+    copy_words_requires
     same_length
-    same-length-2
+    same-length_2
     returns)

@@ -16,8 +16,8 @@ mul-marks c = search rules
 add-marks : tie.Need-overflow-add-marks
 add-marks c = search rules
 
-renew-lists-requires : tie.Need-renew-lists-requires
-renew-lists-requires c κs = search rules
+renew-lists_requires : tie.Need-renew-lists-requires
+renew-lists_requires c κs = search rules
 
 mul-reverse : tie.Need-overflow-mul-reverse
 mul-reverse c = search rules
@@ -25,14 +25,14 @@ mul-reverse c = search rules
 sub-reverse : tie.Need-overflow-sub-reverse
 sub-reverse c = search rules
 
-part-reverse-start : tie.Need-slice-bounds-reverse-start
-part-reverse-start c = search rules
+part-reverse_start : tie.Need-slice-bounds-reverse-start
+part-reverse_start c = search rules
 
 part-reverse-end : tie.Need-slice-bounds-reverse-end
 part-reverse-end c = search rules
 
-reverse-requires : tie.Need-reverse-requires
-reverse-requires c κs =
+reverse_requires : tie.Need-reverse-requires
+reverse_requires c κs =
     let start = c.before.before.before.before.before.before.before.before.before.before.before.before in
     let p = start.requires in
     let a = start.args in
@@ -40,33 +40,33 @@ reverse-requires c κs =
     let A = c.before.before.before.before.before.before.renew-lists.ensures in
     let words = L.words in
     let long = A.long in
-    let scratch = A.scratch-long in
+    let scratch = A.scratch_long in
     let room = p.4 in
     let e : a.n * a.k + 260 * a.n - a.n * a.k ≡ 260 * a.n = omega arith in
     ((L.few, p.2, omega arith, omega arith, old-room _ _ _ _ L A e, old-lengths _ _ _ _ L A e p.1 p.3, omega arith), old-draws _ _ _ _ L A e p.1 p.3)
 
-mul-reverse-2 : tie.Need-overflow-mul-reverse-2
-mul-reverse-2 c = search rules
+mul-reverse_2 : tie.Need-overflow-mul-reverse-2
+mul-reverse_2 c = search rules
 
-sub-reverse-2 : tie.Need-overflow-sub-reverse-2
-sub-reverse-2 c = search rules
+sub-reverse_2 : tie.Need-overflow-sub-reverse-2
+sub-reverse_2 c = search rules
 
-part-reverse-start-2 : tie.Need-slice-bounds-reverse-start-2
-part-reverse-start-2 c = search rules
+part-reverse_start_2 : tie.Need-slice-bounds-reverse-start-2
+part-reverse_start_2 c = search rules
 
-part-reverse-end-2 : tie.Need-slice-bounds-reverse-end-2
-part-reverse-end-2 c = search rules
+part-reverse-end_2 : tie.Need-slice-bounds-reverse-end-2
+part-reverse-end_2 c = search rules
 
-reverse-requires-2 : tie.Need-reverse-requires-2
-reverse-requires-2 c κs =
+reverse_requires_2 : tie.Need-reverse-requires-2
+reverse_requires_2 c κs =
     let start = c.before.before.before.before.before.before.before.before.before.before.before.before.before.before.before.before.before.before.before in
     let p = start.requires in
     let a = start.args in
     let L = p.0 in
     let A = c.before.before.before.before.before.before.before.before.before.before.before.before.before.renew-lists.ensures in
     let B = c.before.before.before.before.before.before.reverse.ensures in
-    let scratch = A.scratch-long in
-    let scratch2 = B.scratch-long in
+    let scratch = A.scratch_long in
+    let scratch2 = B.scratch_long in
     let room = p.4 in
     let e : a.n * a.k + 260 * a.n - a.n * a.k ≡ 260 * a.n = omega arith in
     ((L.few, p.2, omega arith, omega arith, new-room _ _ _ _ L A e B e, new-lengths _ _ _ _ L A e B e p.1 p.3, omega arith), new-draws _ _ _ _ L A e B e p.1 p.3)
@@ -74,8 +74,8 @@ reverse-requires-2 c κs =
 same_length : tie.Need-same-length
 same_length c = search rules
 
-same-length-2 : tie.Need-same-length-2
-same-length-2 c = search rules
+same-length_2 : tie.Need-same-length-2
+same-length_2 c = search rules
 
 returns : tie.Need-returns
 returns c =
@@ -85,24 +85,24 @@ returns c =
     let e : a.n * a.k + 260 * a.n - a.n * a.k ≡ 260 * a.n = omega arith in
     state-renewed _ _ _ _ p.0 c.before.before.before.before.before.before.before.before.before.before.before.before.before.before.before.before.before.before.renew-lists.ensures e c.before.before.before.before.before.before.before.before.before.before.before.reverse.ensures e c.before.before.before.before.reverse2.ensures
 
-pub renew-state-spec : {M : Type 1} → statement M
-renew-state-spec =
+pub renew-state_spec : {M : Type 1} → statement M
+renew-state_spec =
     tie.close
     (tie.spec
     mul-lists
     mul-marks
     add-marks
-    renew-lists-requires
+    renew-lists_requires
     mul-reverse
     sub-reverse
-    part-reverse-start
+    part-reverse_start
     part-reverse-end
-    reverse-requires
-    mul-reverse-2
-    sub-reverse-2
-    part-reverse-start-2
-    part-reverse-end-2
-    reverse-requires-2
+    reverse_requires
+    mul-reverse_2
+    sub-reverse_2
+    part-reverse_start_2
+    part-reverse-end_2
+    reverse_requires_2
     same_length
-    same-length-2
+    same-length_2
     returns)

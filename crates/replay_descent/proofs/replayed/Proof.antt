@@ -3,63 +3,63 @@ use borrow.Author.Rules.{rules}
 use Rattle.replay_descent.proofs.replayed.Statement.{statement}
 use Rattle.replay_descent.proofs.replayed.Tie as tie
 
-abbrev invariant-loop : tie.invariant-loop
-invariant-loop text left₀ t₀ left t = Unit {0}
+abbrev invariant_loop : tie.invariant-loop
+invariant_loop text left₀ t₀ left t = Unit {0}
 
-abbrev decreases-loop : tie.decreases-loop
-decreases-loop text left₀ t₀ left t = left
+abbrev decreases_loop : tie.decreases-loop
+decreases_loop text left₀ t₀ left t = left
 
-none-requires : tie.Need-none-requires invariant-loop decreases-loop
-none-requires c κs = search rules
+none_requires : tie.Need-none-requires invariant_loop decreases_loop
+none_requires c κs = search rules
 
-loop-holds : tie.Need-loop-init invariant-loop decreases-loop
-loop-holds c = tt
+loop_holds : tie.Need-loop-init invariant_loop decreases_loop
+loop_holds c = tt
 
-next-case-requires : tie.Need-next-case-requires invariant-loop decreases-loop
-next-case-requires c κs = search rules
+next_case_requires : tie.Need-next-case-requires invariant_loop decreases_loop
+next_case_requires c κs = search rules
 
-is-ours-requires : tie.Need-is-ours-requires invariant-loop decreases-loop
-is-ours-requires c κs = search rules
+is_ours_requires : tie.Need-is-ours-requires invariant_loop decreases_loop
+is_ours_requires c κs = search rules
 
-ended-requires : tie.Need-ended-requires invariant-loop decreases-loop
-ended-requires c κs = search rules
+ended_requires : tie.Need-ended-requires invariant_loop decreases_loop
+ended_requires c κs = search rules
 
-returns : tie.Need-returns invariant-loop decreases-loop
+returns : tie.Need-returns invariant_loop decreases_loop
 returns c = search rules
 
-one-case-requires : tie.Need-one-case-requires invariant-loop decreases-loop
-one-case-requires c κs = search rules
+one_case_requires : tie.Need-one-case-requires invariant_loop decreases_loop
+one_case_requires c κs = search rules
 
-with-case-requires : tie.Need-with-case-requires invariant-loop decreases-loop
-with-case-requires c κs = search rules
+with_case_requires : tie.Need-with-case-requires invariant_loop decreases_loop
+with_case_requires c κs = search rules
 
-sub-left : tie.Need-overflow-sub-left invariant-loop decreases-loop
+sub-left : tie.Need-overflow-sub-left invariant_loop decreases_loop
 sub-left c = search rules
 
-loop-less : tie.Need-loop-smaller invariant-loop decreases-loop
-loop-less c = search rules
+loop_less : tie.Need-loop-smaller invariant_loop decreases_loop
+loop_less c = search rules
 
-loop-again : tie.Need-loop-preserved invariant-loop decreases-loop
-loop-again c = tt
+loop_again : tie.Need-loop-preserved invariant_loop decreases_loop
+loop_again c = tt
 
-returns-2 : tie.Need-returns-2 invariant-loop decreases-loop
-returns-2 c = search rules
+returns_2 : tie.Need-returns-2 invariant_loop decreases_loop
+returns_2 c = search rules
 
-pub replayed-spec : {M : Type 1} → statement M
-replayed-spec =
+pub replayed_spec : {M : Type 1} → statement M
+replayed_spec =
     tie.close
     (tie.spec
-    invariant-loop
-    decreases-loop
-    none-requires
-    loop-holds
-    next-case-requires
-    is-ours-requires
-    ended-requires
+    invariant_loop
+    decreases_loop
+    none_requires
+    loop_holds
+    next_case_requires
+    is_ours_requires
+    ended_requires
     returns
-    one-case-requires
-    with-case-requires
+    one_case_requires
+    with_case_requires
     sub-left
-    loop-less
-    loop-again
-    returns-2)
+    loop_less
+    loop_again
+    returns_2)

@@ -3,47 +3,47 @@ use Rattle.std.proofs.Common.{arith, length-take, rules}
 use Rattle.replay_relay.proofs.close_in.Statement.{statement}
 use Rattle.replay_relay.proofs.close_in.Tie as tie
 
-area-requires : tie.Need-area-requires
-area-requires c κs = search rules
+area_requires : tie.Need-area-requires
+area_requires c κs = search rules
 
-least-requires : tie.Need-least-requires
-least-requires c κs = search rules
+least_requires : tie.Need-least-requires
+least_requires c κs = search rules
 
-area-requires-2 : tie.Need-area-requires-2
-area-requires-2 c κs = search rules
+area_requires_2 : tie.Need-area-requires-2
+area_requires_2 c κs = search rules
 
-least-requires-2 : tie.Need-least-requires-2
-least-requires-2 c κs = search rules
+least_requires_2 : tie.Need-least-requires-2
+least_requires_2 c κs = search rules
 
-array-borrow-prefix-nodes : tie.Need-array-borrow-prefix-nodes
-array-borrow-prefix-nodes c = search rules
+array_borrow_prefix_nodes : tie.Need-array-borrow-prefix-nodes
+array_borrow_prefix_nodes c = search rules
 
-slice-aggregate-closed : tie.Need-slice-aggregate-closed
-slice-aggregate-closed c = simp length-take (omega arith)
+slice_aggregate_closed : tie.Need-slice-aggregate-closed
+slice_aggregate_closed c = simp length-take (omega arith)
 
-array-borrow-prefix-dists : tie.Need-array-borrow-prefix-dists
-array-borrow-prefix-dists c = search rules
+array_borrow_prefix_dists : tie.Need-array-borrow-prefix-dists
+array_borrow_prefix_dists c = search rules
 
-slice-aggregate-closed-2 : tie.Need-slice-aggregate-closed-2
-slice-aggregate-closed-2 c = simp length-take (omega arith)
+slice_aggregate_closed_2 : tie.Need-slice-aggregate-closed-2
+slice_aggregate_closed_2 c = simp length-take (omega arith)
 
-closed-requires : tie.Need-closed-requires
-closed-requires c κs = search rules
+closed_requires : tie.Need-closed-requires
+closed_requires c κs = search rules
 
 returns : tie.Need-returns
 returns c = search rules
 
-pub close-in-spec : {M : Type 1} → statement M
-close-in-spec =
+pub close_in_spec : {M : Type 1} → statement M
+close_in_spec =
     tie.close
     (tie.spec
-    area-requires
-    least-requires
-    area-requires-2
-    least-requires-2
-    array-borrow-prefix-nodes
-    slice-aggregate-closed
-    array-borrow-prefix-dists
-    slice-aggregate-closed-2
-    closed-requires
+    area_requires
+    least_requires
+    area_requires_2
+    least_requires_2
+    array_borrow_prefix_nodes
+    slice_aggregate_closed
+    array_borrow_prefix_dists
+    slice_aggregate_closed_2
+    closed_requires
     returns)

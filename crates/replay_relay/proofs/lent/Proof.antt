@@ -3,53 +3,53 @@ use Rattle.std.proofs.Common.{arith, length-take, rules}
 use Rattle.replay_relay.proofs.lent.Statement.{statement}
 use Rattle.replay_relay.proofs.lent.Tie as tie
 
-area-requires : tie.Need-area-requires
-area-requires c κs = search rules
+area_requires : tie.Need-area-requires
+area_requires c κs = search rules
 
-least-requires : tie.Need-least-requires
-least-requires c κs = search rules
+least_requires : tie.Need-least-requires
+least_requires c κs = search rules
 
-area-requires-2 : tie.Need-area-requires-2
-area-requires-2 c κs = search rules
+area_requires_2 : tie.Need-area-requires-2
+area_requires_2 c κs = search rules
 
-least-requires-2 : tie.Need-least-requires-2
-least-requires-2 c κs = search rules
+least_requires_2 : tie.Need-least-requires-2
+least_requires_2 c κs = search rules
 
-area-requires-3 : tie.Need-area-requires-3
-area-requires-3 c κs = search rules
+area_requires_3 : tie.Need-area-requires-3
+area_requires_3 c κs = search rules
 
-least-requires-3 : tie.Need-least-requires-3
-least-requires-3 c κs = search rules
+least_requires_3 : tie.Need-least-requires-3
+least_requires_3 c κs = search rules
 
-slice-relend-prefix-given : tie.Need-slice-relend-prefix-given
-slice-relend-prefix-given c = search rules
+slice_relend_prefix_given : tie.Need-slice-relend-prefix-given
+slice_relend_prefix_given c = search rules
 
-slice-aggregate-given : tie.Need-slice-aggregate-given
-slice-aggregate-given c = simp length-take (omega arith)
+slice_aggregate_given : tie.Need-slice-aggregate-given
+slice_aggregate_given c = simp length-take (omega arith)
 
-slice-relend-prefix-given-2 : tie.Need-slice-relend-prefix-given-2
-slice-relend-prefix-given-2 c = search rules
+slice_relend_prefix_given_2 : tie.Need-slice-relend-prefix-given-2
+slice_relend_prefix_given_2 c = search rules
 
-slice-aggregate-given-2 : tie.Need-slice-aggregate-given-2
-slice-aggregate-given-2 c = simp length-take (omega arith)
+slice_aggregate_given_2 : tie.Need-slice-aggregate-given-2
+slice_aggregate_given_2 c = simp length-take (omega arith)
 
-slice-relend-prefix-given-3 : tie.Need-slice-relend-prefix-given-3
-slice-relend-prefix-given-3 c = search rules
+slice_relend_prefix_given_3 : tie.Need-slice-relend-prefix-given-3
+slice_relend_prefix_given_3 c = search rules
 
-slice-aggregate-given-3 : tie.Need-slice-aggregate-given-3
-slice-aggregate-given-3 c = simp length-take (omega arith)
+slice_aggregate_given_3 : tie.Need-slice-aggregate-given-3
+slice_aggregate_given_3 c = simp length-take (omega arith)
 
-given-requires : tie.Need-given-requires
-given-requires c κs = search rules
+given_requires : tie.Need-given-requires
+given_requires c κs = search rules
 
 same_length : tie.Need-same-length
 same_length c = search rules
 
-same-length-2 : tie.Need-same-length-2
-same-length-2 c = search rules
+same-length_2 : tie.Need-same-length-2
+same-length_2 c = search rules
 
-same-length-3 : tie.Need-same-length-3
-same-length-3 c = search rules
+same-length_3 : tie.Need-same-length-3
+same-length_3 c = search rules
 
 returns : tie.Need-returns
 returns c = search rules
@@ -58,20 +58,20 @@ pub lent_spec : {M : Type 1} → statement M
 lent_spec =
     tie.close
     (tie.spec
-    area-requires
-    least-requires
-    area-requires-2
-    least-requires-2
-    area-requires-3
-    least-requires-3
-    slice-relend-prefix-given
-    slice-aggregate-given
-    slice-relend-prefix-given-2
-    slice-aggregate-given-2
-    slice-relend-prefix-given-3
-    slice-aggregate-given-3
-    given-requires
+    area_requires
+    least_requires
+    area_requires_2
+    least_requires_2
+    area_requires_3
+    least_requires_3
+    slice_relend_prefix_given
+    slice_aggregate_given
+    slice_relend_prefix_given_2
+    slice_aggregate_given_2
+    slice_relend_prefix_given_3
+    slice_aggregate_given_3
+    given_requires
     same_length
-    same-length-2
-    same-length-3
+    same-length_2
+    same-length_3
     returns)

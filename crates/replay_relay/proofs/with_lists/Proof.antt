@@ -3,31 +3,31 @@ use Rattle.std.proofs.Common.{arith, length-take, rules}
 use Rattle.replay_relay.proofs.with_lists.Statement.{statement}
 use Rattle.replay_relay.proofs.with_lists.Tie as tie
 
-read-jobs-requires : tie.Need-read-jobs-requires
-read-jobs-requires c κs = search rules
+read-jobs_requires : tie.Need-read-jobs-requires
+read-jobs_requires c κs = search rules
 
 mul-long : tie.Need-overflow-mul-long
 mul-long c = search rules
 
-array-borrow-prefix-jobs : tie.Need-array-borrow-prefix-jobs
-array-borrow-prefix-jobs c = search rules
+array_borrow_prefix_jobs : tie.Need-array-borrow-prefix-jobs
+array_borrow_prefix_jobs c = search rules
 
-slice-aggregate-with-jobs : tie.Need-slice-aggregate-with-jobs
-slice-aggregate-with-jobs c = simp length-take (omega arith)
+slice_aggregate_with_jobs : tie.Need-slice-aggregate-with-jobs
+slice_aggregate_with_jobs c = simp length-take (omega arith)
 
-with-jobs-requires : tie.Need-with-jobs-requires
-with-jobs-requires c κs = search rules
+with_jobs_requires : tie.Need-with-jobs-requires
+with_jobs_requires c κs = search rules
 
 returns : tie.Need-returns
 returns c = search rules
 
-pub with-lists-spec : {M : Type 1} → statement M
-with-lists-spec =
+pub with_lists_spec : {M : Type 1} → statement M
+with_lists_spec =
     tie.close
     (tie.spec
-    read-jobs-requires
+    read-jobs_requires
     mul-long
-    array-borrow-prefix-jobs
-    slice-aggregate-with-jobs
-    with-jobs-requires
+    array_borrow_prefix_jobs
+    slice_aggregate_with_jobs
+    with_jobs_requires
     returns)

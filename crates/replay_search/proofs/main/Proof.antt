@@ -4,55 +4,55 @@ use borrow.Author.Rules.{rules}
 use Rattle.replay_search.proofs.main.Statement.{statement}
 use Rattle.replay_search.proofs.main.Tie as tie
 
-abbrev invariant-loop : tie.invariant-loop
-invariant-loop i₀ t3 i-end i = Unit {0}
+abbrev invariant_loop : tie.invariant-loop
+invariant_loop i₀ t3 i_end i = Unit {0}
 
-abbrev decreases-loop : tie.decreases-loop
-decreases-loop i₀ t3 i-end i = i-end - i
+abbrev decreases_loop : tie.decreases-loop
+decreases_loop i₀ t3 i_end i = i_end - i
 
-slice-aggregate-replay : tie.Need-slice-aggregate-replay invariant-loop decreases-loop
-slice-aggregate-replay c = search rules
+slice_aggregate_replay : tie.Need-slice-aggregate-replay invariant_loop decreases_loop
+slice_aggregate_replay c = search rules
 
-replay-requires : tie.Need-replay-requires invariant-loop decreases-loop
-replay-requires c κs = search rules
+replay_requires : tie.Need-replay-requires invariant_loop decreases_loop
+replay_requires c κs = search rules
 
-arg-count-requires : tie.Need-arg-count-requires invariant-loop decreases-loop
-arg-count-requires c κs = search rules
+arg_count_requires : tie.Need-arg-count-requires invariant_loop decreases_loop
+arg_count_requires c κs = search rules
 
-loop-holds : tie.Need-loop-init invariant-loop decreases-loop
-loop-holds c = tt
+loop_holds : tie.Need-loop-init invariant_loop decreases_loop
+loop_holds c = tt
 
-slice-aggregate-replay-2 : tie.Need-slice-aggregate-replay-2 invariant-loop decreases-loop
-slice-aggregate-replay-2 c = search rules
+slice_aggregate_replay_2 : tie.Need-slice-aggregate-replay-2 invariant_loop decreases_loop
+slice_aggregate_replay_2 c = search rules
 
-replay-requires-2 : tie.Need-replay-requires-2 invariant-loop decreases-loop
-replay-requires-2 c κs = search rules
+replay_requires_2 : tie.Need-replay-requires-2 invariant_loop decreases_loop
+replay_requires_2 c κs = search rules
 
-add-i : tie.Need-overflow-add-i invariant-loop decreases-loop
-add-i c = search rules
+add_i : tie.Need-overflow-add-i invariant_loop decreases_loop
+add_i c = search rules
 
-loop-less : tie.Need-loop-smaller invariant-loop decreases-loop
-loop-less c = search rules
+loop_less : tie.Need-loop-smaller invariant_loop decreases_loop
+loop_less c = search rules
 
-loop-again : tie.Need-loop-preserved invariant-loop decreases-loop
-loop-again c = tt
+loop_again : tie.Need-loop-preserved invariant_loop decreases_loop
+loop_again c = tt
 
-returns : tie.Need-returns invariant-loop decreases-loop
+returns : tie.Need-returns invariant_loop decreases_loop
 returns c = search rules
 
 pub main_spec : {M : Type 1} → statement M
 main_spec =
     tie.close
     (tie.spec
-    invariant-loop
-    decreases-loop
-    slice-aggregate-replay
-    replay-requires
-    arg-count-requires
-    loop-holds
-    slice-aggregate-replay-2
-    replay-requires-2
-    add-i
-    loop-less
-    loop-again
+    invariant_loop
+    decreases_loop
+    slice_aggregate_replay
+    replay_requires
+    arg_count_requires
+    loop_holds
+    slice_aggregate_replay_2
+    replay_requires_2
+    add_i
+    loop_less
+    loop_again
     returns)

@@ -21,45 +21,45 @@ others c (End d) (inr (inr e)) = absurd (let no : ⊥ = omega (arith, e) in no)
 others c (TooLarge at) h = refl
 others c (Strange at) h = refl
 
-read-word-requires : tie.Need-read-word-requires
-read-word-requires c κs = search rules
+read-word_requires : tie.Need-read-word-requires
+read-word_requires c κs = search rules
 
-unexpected-requires : tie.Need-unexpected-requires
-unexpected-requires c κs = search rules
+unexpected_requires : tie.Need-unexpected-requires
+unexpected_requires c κs = search rules
 
 returns : tie.Need-returns
 returns c = c.unexpected.ensures ∙ end-other _ _ _ c.before.before.before.before.read_word.result c.before.before.before.before.read_word.ensures c.before.if1.true
 
-next-number-requires : tie.Need-next-number-requires
-next-number-requires c κs = search rules
+next-number_requires : tie.Need-next-number-requires
+next-number_requires c κs = search rules
 
 enum_told : tie.Need-enum-told
 enum_told c = search rules
 
-unexpected-requires-2 : tie.Need-unexpected-requires-2
-unexpected-requires-2 c κs = search rules
+unexpected_requires_2 : tie.Need-unexpected-requires-2
+unexpected_requires_2 c κs = search rules
 
-returns-2 : tie.Need-returns-2
+returns_2 : tie.Need-returns-2
 unfolding closed
-returns-2 c =
+returns_2 c =
     let w = c.before.before.before.before.before.before in
     ap (closed _) (sym c.enum_told.given.1 ∙ c.before.before.next-number.ensures) ∙ end-closed _ _ _ w.read_word.result w.read_word.ensures c.before.before.before.if1.false
 
-returns-3 : tie.Need-returns-3
-returns-3 c =
+returns_3 : tie.Need-returns-3
+returns_3 c =
     let n = c.before.before in
     let w = n.before.before.before.before in
     c.unexpected2.ensures ∙ others _ n.next-number.result c.before.match.keys2 ∙ ap (closed _) n.next-number.ensures ∙ end-closed _ _ _ w.read_word.result w.read_word.ensures n.before.if1.false
 
-pub list-end-spec : {M : Type 1} → statement M
-list-end-spec =
+pub list-end_spec : {M : Type 1} → statement M
+list-end_spec =
     tie.close
     (tie.spec
-    read-word-requires
-    unexpected-requires
+    read-word_requires
+    unexpected_requires
     returns
-    next-number-requires
+    next-number_requires
     enum_told
-    unexpected-requires-2
-    returns-2
-    returns-3)
+    unexpected_requires_2
+    returns_2
+    returns_3)

@@ -4,12 +4,12 @@ use Rattle.std.proofs.Common.{rules}
 use Rattle.replays.proofs.unexpected.Statement.{statement}
 use Rattle.replays.proofs.unexpected.Tie as tie
 
-faulted-requires : tie.Need-faulted-requires
-faulted-requires c κs = search rules
+faulted_requires : tie.Need-faulted-requires
+faulted_requires c κs = search rules
 
 returns : tie.Need-returns
 unfolding unexpected
 returns c = rw c.faulted.ensures
 
-pub unexpected-spec : {M : Type 1} → statement M
-unexpected-spec = tie.close (tie.spec faulted-requires returns)
+pub unexpected_spec : {M : Type 1} → statement M
+unexpected_spec = tie.close (tie.spec faulted_requires returns)

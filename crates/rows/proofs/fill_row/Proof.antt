@@ -4,17 +4,17 @@ use borrow.Author.Rules.{rules}
 use Rattle.rows.proofs.fill_row.Statement.{statement}
 use Rattle.rows.proofs.fill_row.Tie as tie
 
-fill-nodes-requires : tie.Need-fill-nodes-requires
-fill-nodes-requires c κs = search rules
+fill_nodes_requires : tie.Need-fill-nodes-requires
+fill_nodes_requires c κs = search rules
 
-fill-dists-requires : tie.Need-fill-dists-requires
-fill-dists-requires c κs = search rules
+fill_dists_requires : tie.Need-fill-dists-requires
+fill_dists_requires c κs = search rules
 
 same_length : tie.Need-same-length
 same_length c = search rules
 
-same-length-2 : tie.Need-same-length-2
-same-length-2 c = search rules
+same-length_2 : tie.Need-same-length-2
+same-length_2 c = search rules
 
 returns : tie.Need-returns
 returns c =
@@ -23,6 +23,6 @@ returns c =
     rw (c.before.before.before.before.before.before.fill-nodes.ensures, c.before.before.fill-dists.ensures)
     (row-filled start.args.n start.args.w start.args.kept start.args.nodes.now start.args.dists.now pre.0 pre.1 pre.2)
 
-pub fill-row-spec : {M : Type 1} → statement M
-fill-row-spec =
-    tie.close (tie.spec fill-nodes-requires fill-dists-requires same_length same-length-2 returns)
+pub fill_row_spec : {M : Type 1} → statement M
+fill_row_spec =
+    tie.close (tie.spec fill_nodes_requires fill_dists_requires same_length same-length_2 returns)

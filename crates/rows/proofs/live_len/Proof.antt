@@ -2,58 +2,58 @@
 use Prim.Native.Nat.{◌-◌}
 use lib.Ieee.{nan}
 use Rattle.rules.specs.Rows.{is_empty}
-use Rattle.rows.proofs.Laws.{Living, living-none, living-here, living-turn, living-end}
+use Rattle.rows.proofs.Laws.{Living, living_none, living_here, living_turn, living_end}
 use borrow.Author.Rules.{rules}
 use Rattle.rows.proofs.live_len.Statement.{statement}
 use Rattle.rows.proofs.live_len.Tie as tie
 
-abbrev invariant-loop : tie.invariant-loop
-invariant-loop dists w i₀ i = Living w dists i
+abbrev invariant_loop : tie.invariant-loop
+invariant_loop dists w i₀ i = Living w dists i
 
-abbrev decreases-loop : tie.decreases-loop
-decreases-loop dists w i₀ i = w - i
+abbrev decreases_loop : tie.decreases-loop
+decreases_loop dists w i₀ i = w - i
 
-loop-holds : tie.Need-loop-init invariant-loop decreases-loop
-loop-holds c = living-none _ _
+loop_holds : tie.Need-loop-init invariant_loop decreases_loop
+loop_holds c = living_none _ _
 
-mul-if1 : tie.Need-overflow-mul-if1 invariant-loop decreases-loop
-mul-if1 c = search rules
+mul_if1 : tie.Need-overflow-mul-if1 invariant_loop decreases_loop
+mul_if1 c = search rules
 
-shared-slice-read-if1 : tie.Need-shared-slice-read-if1 invariant-loop decreases-loop
-shared-slice-read-if1 c = search rules
+shared_slice_read_if1 : tie.Need-shared-slice-read-if1 invariant_loop decreases_loop
+shared_slice_read_if1 c = search rules
 
-returns : tie.Need-returns invariant-loop decreases-loop
+returns : tie.Need-returns invariant_loop decreases_loop
 unfolding is_empty
 returns c =
     let at = c.before.before.before in
-    living-here at.loop.invariant at.before.requires nan (search rules) (rw c.if1.true)
+    living_here at.loop.invariant at.before.requires nan (search rules) (rw c.if1.true)
 
-add-i : tie.Need-overflow-add-i invariant-loop decreases-loop
-add-i c = search rules
+add_i : tie.Need-overflow-add-i invariant_loop decreases_loop
+add_i c = search rules
 
-loop-less : tie.Need-loop-smaller invariant-loop decreases-loop
-loop-less c = search rules
+loop_less : tie.Need-loop-smaller invariant_loop decreases_loop
+loop_less c = search rules
 
-loop-again : tie.Need-loop-preserved invariant-loop decreases-loop
+loop_again : tie.Need-loop-preserved invariant_loop decreases_loop
 unfolding is_empty
-loop-again c =
+loop_again c =
     let at = c.before.before.before in
-    living-turn at.loop.invariant at.before.requires nan (search rules) (rw c.if1.false)
+    living_turn at.loop.invariant at.before.requires nan (search rules) (rw c.if1.false)
 
-returns-2 : tie.Need-returns-2 invariant-loop decreases-loop
-returns-2 c = living-end c.before.loop.invariant c.before.before.requires (search rules)
+returns_2 : tie.Need-returns-2 invariant_loop decreases_loop
+returns_2 c = living_end c.before.loop.invariant c.before.before.requires (search rules)
 
-pub live-len-spec : {M : Type 1} → statement M
-live-len-spec =
+pub live_len_spec : {M : Type 1} → statement M
+live_len_spec =
     tie.close
     (tie.spec
-    invariant-loop
-    decreases-loop
-    loop-holds
-    mul-if1
-    shared-slice-read-if1
+    invariant_loop
+    decreases_loop
+    loop_holds
+    mul_if1
+    shared_slice_read_if1
     returns
-    add-i
-    loop-less
-    loop-again
-    returns-2)
+    add_i
+    loop_less
+    loop_again
+    returns_2)

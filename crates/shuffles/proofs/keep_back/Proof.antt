@@ -7,14 +7,14 @@ use Rattle.shuffles.proofs.keep_back.Tie as tie
 returns : tie.Need-returns
 returns c = back-all _ _ _ _ (search rules)
 
-shuffle-requires : tie.Need-shuffle-requires
-shuffle-requires c κs = search rules
+shuffle_requires : tie.Need-shuffle-requires
+shuffle_requires c κs = search rules
 
 same_length : tie.Need-same-length
 same_length c = search rules
 
-returns-2 : tie.Need-returns-2
-returns-2 c = back_cut _ _ _ _ (search rules) c.before.before.shuffle.ensures
+returns_2 : tie.Need-returns-2
+returns_2 c = back_cut _ _ _ _ (search rules) c.before.before.shuffle.ensures
 
-pub keep-back-spec : {M : Type 1} → statement M
-keep-back-spec = tie.close (tie.spec returns shuffle-requires same_length returns-2)
+pub keep-back_spec : {M : Type 1} → statement M
+keep-back_spec = tie.close (tie.spec returns shuffle_requires same_length returns_2)

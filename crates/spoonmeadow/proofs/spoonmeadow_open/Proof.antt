@@ -4,28 +4,28 @@ use borrow.Author.Rules.{rules}
 use Rattle.spoonmeadow.proofs.spoonmeadow_open.Statement.{statement}
 use Rattle.spoonmeadow.proofs.spoonmeadow_open.Tie as tie
 
-open-requires : tie.Need-open-requires
-open-requires c κs = search rules
+open_requires : tie.Need-open-requires
+open_requires c κs = search rules
 
-of-answer-requires : tie.Need-of-answer-requires
-of-answer-requires c κs = search rules
+of_answer_requires : tie.Need-of-answer-requires
+of_answer_requires c κs = search rules
 
 same_length : tie.Need-same-length
 same_length c = search rules
 
-same-length-2 : tie.Need-same-length-2
-same-length-2 c = search rules
+same-length_2 : tie.Need-same-length-2
+same-length_2 c = search rules
 
-same-length-3 : tie.Need-same-length-3
-same-length-3 c = search rules
+same-length_3 : tie.Need-same-length-3
+same-length_3 c = search rules
 
-same-length-4 : tie.Need-same-length-4
-same-length-4 c = search rules
+same-length_4 : tie.Need-same-length-4
+same-length_4 c = search rules
 
 returns : tie.Need-returns
 returns c = opened c.of-answer.ensures c.before.before.before.before.before.before.before.before.before.«open».ensures
 
-pub spoonmeadow-open-spec : {M : Type 1} → statement M
-spoonmeadow-open-spec =
+pub spoonmeadow_open_spec : {M : Type 1} → statement M
+spoonmeadow_open_spec =
     tie.close
-    (tie.spec open-requires of-answer-requires same_length same-length-2 same-length-3 same-length-4 returns)
+    (tie.spec open_requires of_answer_requires same_length same-length_2 same-length_3 same-length_4 returns)

@@ -9,11 +9,11 @@ use Rattle.states.proofs.same_words.Tie as tie
 returns : tie.Need-returns
 returns c = alike-lengths eqb _ _ c.if1.true
 
-same-first-requires : tie.Need-same-first-requires
-same-first-requires c κs = search rules
+same-first_requires : tie.Need-same-first-requires
+same-first_requires c κs = search rules
 
-returns-2 : tie.Need-returns-2
-returns-2 c = c.same_first.ensures ∙ alike-whole eqb _ _ c.before.if1.false
+returns_2 : tie.Need-returns-2
+returns_2 c = c.same_first.ensures ∙ alike-whole eqb _ _ c.before.if1.false
 
-pub same-words-spec : {M : Type 1} → statement M
-same-words-spec = tie.close (tie.spec returns same-first-requires returns-2)
+pub same-words_spec : {M : Type 1} → statement M
+same-words_spec = tie.close (tie.spec returns same-first_requires returns_2)

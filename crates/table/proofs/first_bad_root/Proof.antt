@@ -3,76 +3,76 @@ use mathlib.Core.Path.{◌≡◌, sym, ◌∙◌}
 use Prim.Native.Nat.{◌-◌, ◌≤◌}
 use native.Mathlib.Omega.{arith}
 use lib.ListN.{length}
-use Rattle.rules.specs.Loops.{firstFrom}
-use Rattle.rules.specs.Refusals.{badRoot, firstBadRoot}
-use Rattle.rules.proofs.Loops.{first-begun, first-here, first-turn, first-end}
-use Rattle.table.proofs.Laws.{bad-high, bad-is}
+use Rattle.rules.specs.Loops.{first_from}
+use Rattle.rules.specs.Refusals.{bad_root, first_bad_root}
+use Rattle.rules.proofs.Loops.{first-begun, first-here, first_turn, first-end}
+use Rattle.table.proofs.Laws.{bad_high, bad_is}
 use borrow.Author.Rules.{rules}
 use Rattle.table.proofs.first_bad_root.Statement.{statement}
 use Rattle.table.proofs.first_bad_root.Tie as tie
 
-abbrev invariant-loop : tie.invariant-loop
-invariant-loop n roots i₀ i = (i ≤ length roots) × (firstFrom (badRoot n roots) i (length roots - i) ≡ firstBadRoot n roots)
+abbrev invariant_loop : tie.invariant-loop
+invariant_loop n roots i₀ i = (i ≤ length roots) × (first_from (bad_root n roots) i (length roots - i) ≡ first_bad_root n roots)
 
-abbrev decreases-loop : tie.decreases-loop
-decreases-loop n roots i₀ i = length roots - i
+abbrev decreases_loop : tie.decreases-loop
+decreases_loop n roots i₀ i = length roots - i
 
-loop-holds : tie.Need-loop-init invariant-loop decreases-loop
-unfolding firstBadRoot
-loop-holds c = (search rules, first-begun (badRoot _ _) _ 0)
+loop_holds : tie.Need-loop-init invariant_loop decreases_loop
+unfolding first_bad_root
+loop_holds c = (search rules, first-begun (bad_root _ _) _ 0)
 
-mul-v : tie.Need-overflow-mul-v invariant-loop decreases-loop
+mul-v : tie.Need-overflow-mul-v invariant_loop decreases_loop
 mul-v c = search rules
 
-shared-slice-read-v : tie.Need-shared-slice-read-v invariant-loop decreases-loop
-shared-slice-read-v c = search rules
+shared_slice_read-v : tie.Need-shared-slice-read-v invariant_loop decreases_loop
+shared_slice_read-v c = search rules
 
-cast-if1 : tie.Need-overflow-cast-if1 invariant-loop decreases-loop
-cast-if1 c = omega (arith, c.shared-slice-known2.given c.before.before.loop.i)
+cast_if1 : tie.Need-overflow-cast-if1 invariant_loop decreases_loop
+cast_if1 c = omega (arith, c.shared-slice-known2.given c.before.before.loop.i)
 
-returns : tie.Need-returns invariant-loop decreases-loop
+returns : tie.Need-returns invariant_loop decreases_loop
 returns c =
     let at = c.before.before.before in
-    sym (sym at.loop.invariant.1 ∙ first-here (badRoot _ _) _ at.loop.i (search rules) (bad-high _ _ at.loop.i c.if1.true))
+    sym (sym at.loop.invariant.1 ∙ first-here (bad_root _ _) _ at.loop.i (search rules) (bad_high _ _ at.loop.i c.if1.true))
 
-has-requires : tie.Need-has-requires invariant-loop decreases-loop
-has-requires c κs = search rules
+has_requires : tie.Need-has-requires invariant_loop decreases_loop
+has_requires c κs = search rules
 
-returns-2 : tie.Need-returns-2 invariant-loop decreases-loop
-returns-2 c =
+returns_2 : tie.Need-returns-2 invariant_loop decreases_loop
+returns_2 c =
     let at = c.before.before.before.before.before in
-    sym (sym at.loop.invariant.1 ∙ first-here (badRoot _ _) _ at.loop.i (search rules) (bad-is _ _ at.loop.i c.before.before.if1.false ∙ sym c.before.has.ensures ∙ c.if2.true))
+    sym (sym at.loop.invariant.1 ∙ first-here (bad_root _ _) _ at.loop.i (search rules) (bad_is _ _ at.loop.i c.before.before.if1.false ∙ sym c.before.has.ensures ∙ c.if2.true))
 
-add-i : tie.Need-overflow-add-i invariant-loop decreases-loop
-add-i c = search rules
+add_i : tie.Need-overflow-add-i invariant_loop decreases_loop
+add_i c = search rules
 
-loop-less : tie.Need-loop-smaller invariant-loop decreases-loop
-loop-less c = search rules
+loop_less : tie.Need-loop-smaller invariant_loop decreases_loop
+loop_less c = search rules
 
-loop-again : tie.Need-loop-preserved invariant-loop decreases-loop
-loop-again c =
+loop_again : tie.Need-loop-preserved invariant_loop decreases_loop
+loop_again c =
     let at = c.before.before.before.before.before in
-    (search rules, first-turn (badRoot _ _) _ at.loop.i (search rules) (bad-is _ _ at.loop.i c.before.before.if1.false ∙ sym c.before.has.ensures ∙ c.if2.false) ∙ at.loop.invariant.1)
+    (search rules, first_turn (bad_root _ _) _ at.loop.i (search rules) (bad_is _ _ at.loop.i c.before.before.if1.false ∙ sym c.before.has.ensures ∙ c.if2.false) ∙ at.loop.invariant.1)
 
-returns-3 : tie.Need-returns-3 invariant-loop decreases-loop
-returns-3 c =
+returns_3 : tie.Need-returns-3 invariant_loop decreases_loop
+returns_3 c =
     let at = c.before in
-    sym (sym at.loop.invariant.1 ∙ first-end (badRoot _ _) _ at.loop.i (search rules))
+    sym (sym at.loop.invariant.1 ∙ first-end (bad_root _ _) _ at.loop.i (search rules))
 
-pub first-bad-root-spec : {M : Type 1} → statement M
-first-bad-root-spec =
+pub first_bad_root_spec : {M : Type 1} → statement M
+first_bad_root_spec =
     tie.close
     (tie.spec
-    invariant-loop
-    decreases-loop
-    loop-holds
+    invariant_loop
+    decreases_loop
+    loop_holds
     mul-v
-    shared-slice-read-v
-    cast-if1
+    shared_slice_read-v
+    cast_if1
     returns
-    has-requires
-    returns-2
-    add-i
-    loop-less
-    loop-again
-    returns-3)
+    has_requires
+    returns_2
+    add_i
+    loop_less
+    loop_again
+    returns_3)

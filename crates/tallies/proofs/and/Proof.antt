@@ -8,13 +8,13 @@ returns : tie.Need-returns
 unfolding joined
 returns c = simp c.if1.true
 
-returns-2 : tie.Need-returns-2
+returns_2 : tie.Need-returns-2
 unfolding joined
-returns-2 c = simp (c.before.before.if1.false, ne_eqb _ _ c.if2.true)
+returns_2 c = simp (c.before.before.if1.false, ne_eqb _ _ c.if2.true)
 
-returns-3 : tie.Need-returns-3
+returns_3 : tie.Need-returns-3
 unfolding joined
-returns-3 c = simp (c.before.before.if1.false, eq-eqb _ _ c.if2.false)
+returns_3 c = simp (c.before.before.if1.false, eq-eqb _ _ c.if2.false)
 
-pub and-spec : {M : Type 1} → statement M
-and-spec = tie.close (tie.spec returns returns-2 returns-3)
+pub and_spec : {M : Type 1} → statement M
+and_spec = tie.close (tie.spec returns returns_2 returns_3)

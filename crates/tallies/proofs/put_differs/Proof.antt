@@ -1,55 +1,55 @@
 -- `tallies::put_differs` meets its contract. Assumes nothing.
 use Rattle.std.proofs.Common.{rules, eq-eqb, ne_eqb}
 use Rattle.pages.specs.Page.{bytes}
-use Rattle.tallies.specs.Tallies.{differsText}
+use Rattle.tallies.specs.Tallies.{differs_text}
 use Rattle.tallies.proofs.put_differs.Statement.{statement}
 use Rattle.tallies.proofs.put_differs.Tie as tie
 
-slice-aggregate-put : tie.Need-slice-aggregate-put
-slice-aggregate-put c = search rules
+slice_aggregate_put : tie.Need-slice-aggregate-put
+slice_aggregate_put c = search rules
 
-put-requires : tie.Need-put-requires
-put-requires c κs = search rules
+put_requires : tie.Need-put-requires
+put_requires c κs = search rules
 
 same_length : tie.Need-same-length
 same_length c = search rules
 
 returns : tie.Need-returns
-unfolding differsText bytes
+unfolding differs_text bytes
 returns c =
     rw (eq-eqb _ 1 c.before.before.before.before.before.if1.true)
     c.before.before.put.ensures
 
-slice-aggregate-put-2 : tie.Need-slice-aggregate-put-2
-slice-aggregate-put-2 c = search rules
+slice_aggregate_put_2 : tie.Need-slice-aggregate-put-2
+slice_aggregate_put_2 c = search rules
 
-put-requires-2 : tie.Need-put-requires-2
-put-requires-2 c κs = search rules
+put_requires_2 : tie.Need-put-requires-2
+put_requires_2 c κs = search rules
 
-same-length-2 : tie.Need-same-length-2
-same-length-2 c = search rules
+same-length_2 : tie.Need-same-length-2
+same-length_2 c = search rules
 
-returns-2 : tie.Need-returns-2
-unfolding differsText bytes
-returns-2 c =
+returns_2 : tie.Need-returns-2
+unfolding differs_text bytes
+returns_2 c =
     rw (
       ne_eqb _ 1 c.before.before.before.before.before.before.if1.false,
       eq-eqb _ 2 c.before.before.before.before.before.if2.true,
     )
     c.before.before.put2.ensures
 
-slice-aggregate-put-3 : tie.Need-slice-aggregate-put-3
-slice-aggregate-put-3 c = search rules
+slice_aggregate_put_3 : tie.Need-slice-aggregate-put-3
+slice_aggregate_put_3 c = search rules
 
-put-requires-3 : tie.Need-put-requires-3
-put-requires-3 c κs = search rules
+put_requires_3 : tie.Need-put-requires-3
+put_requires_3 c κs = search rules
 
-same-length-3 : tie.Need-same-length-3
-same-length-3 c = search rules
+same-length_3 : tie.Need-same-length-3
+same-length_3 c = search rules
 
-returns-3 : tie.Need-returns-3
-unfolding differsText bytes
-returns-3 c =
+returns_3 : tie.Need-returns-3
+unfolding differs_text bytes
+returns_3 c =
     rw (
       ne_eqb _ 1 c.before.before.before.before.before.before.before.if1.false,
       ne_eqb _ 2 c.before.before.before.before.before.before.if2.false,
@@ -57,18 +57,18 @@ returns-3 c =
     )
     c.before.before.put3.ensures
 
-slice-aggregate-put-4 : tie.Need-slice-aggregate-put-4
-slice-aggregate-put-4 c = search rules
+slice_aggregate_put_4 : tie.Need-slice-aggregate-put-4
+slice_aggregate_put_4 c = search rules
 
-put-requires-4 : tie.Need-put-requires-4
-put-requires-4 c κs = search rules
+put_requires_4 : tie.Need-put-requires-4
+put_requires_4 c κs = search rules
 
-same-length-4 : tie.Need-same-length-4
-same-length-4 c = search rules
+same-length_4 : tie.Need-same-length-4
+same-length_4 c = search rules
 
-returns-4 : tie.Need-returns-4
-unfolding differsText bytes
-returns-4 c =
+returns_4 : tie.Need-returns-4
+unfolding differs_text bytes
+returns_4 c =
     rw (
       ne_eqb _ 1 c.before.before.before.before.before.before.before.before.if1.false,
       ne_eqb _ 2 c.before.before.before.before.before.before.before.if2.false,
@@ -77,18 +77,18 @@ returns-4 c =
     )
     c.before.before.put4.ensures
 
-slice-aggregate-put-5 : tie.Need-slice-aggregate-put-5
-slice-aggregate-put-5 c = search rules
+slice_aggregate_put_5 : tie.Need-slice-aggregate-put-5
+slice_aggregate_put_5 c = search rules
 
-put-requires-5 : tie.Need-put-requires-5
-put-requires-5 c κs = search rules
+put_requires_5 : tie.Need-put-requires-5
+put_requires_5 c κs = search rules
 
-same-length-5 : tie.Need-same-length-5
-same-length-5 c = search rules
+same-length_5 : tie.Need-same-length-5
+same-length_5 c = search rules
 
-returns-5 : tie.Need-returns-5
-unfolding differsText bytes
-returns-5 c =
+returns_5 : tie.Need-returns-5
+unfolding differs_text bytes
+returns_5 c =
     rw (
       ne_eqb _ 1 c.before.before.before.before.before.before.before.before.before.if1.false,
       ne_eqb _ 2 c.before.before.before.before.before.before.before.before.if2.false,
@@ -98,18 +98,18 @@ returns-5 c =
     )
     c.before.before.put5.ensures
 
-slice-aggregate-put-6 : tie.Need-slice-aggregate-put-6
-slice-aggregate-put-6 c = search rules
+slice_aggregate_put_6 : tie.Need-slice-aggregate-put-6
+slice_aggregate_put_6 c = search rules
 
-put-requires-6 : tie.Need-put-requires-6
-put-requires-6 c κs = search rules
+put_requires_6 : tie.Need-put-requires-6
+put_requires_6 c κs = search rules
 
-same-length-6 : tie.Need-same-length-6
-same-length-6 c = search rules
+same-length_6 : tie.Need-same-length-6
+same-length_6 c = search rules
 
-returns-6 : tie.Need-returns-6
-unfolding differsText bytes
-returns-6 c =
+returns_6 : tie.Need-returns-6
+unfolding differs_text bytes
+returns_6 c =
     rw (
       ne_eqb _ 1 c.before.before.before.before.before.before.before.before.before.before.if1.false,
       ne_eqb _ 2 c.before.before.before.before.before.before.before.before.before.if2.false,
@@ -120,18 +120,18 @@ returns-6 c =
     )
     c.before.before.put6.ensures
 
-slice-aggregate-put-7 : tie.Need-slice-aggregate-put-7
-slice-aggregate-put-7 c = search rules
+slice_aggregate_put_7 : tie.Need-slice-aggregate-put-7
+slice_aggregate_put_7 c = search rules
 
-put-requires-7 : tie.Need-put-requires-7
-put-requires-7 c κs = search rules
+put_requires_7 : tie.Need-put-requires-7
+put_requires_7 c κs = search rules
 
-same-length-7 : tie.Need-same-length-7
-same-length-7 c = search rules
+same-length_7 : tie.Need-same-length-7
+same-length_7 c = search rules
 
-returns-7 : tie.Need-returns-7
-unfolding differsText bytes
-returns-7 c =
+returns_7 : tie.Need-returns-7
+unfolding differs_text bytes
+returns_7 c =
     rw (
       ne_eqb _ 1 c.before.before.before.before.before.before.before.before.before.before.before.if1.false,
       ne_eqb _ 2 c.before.before.before.before.before.before.before.before.before.before.if2.false,
@@ -143,18 +143,18 @@ returns-7 c =
     )
     c.before.before.put7.ensures
 
-slice-aggregate-put-8 : tie.Need-slice-aggregate-put-8
-slice-aggregate-put-8 c = search rules
+slice_aggregate_put_8 : tie.Need-slice-aggregate-put-8
+slice_aggregate_put_8 c = search rules
 
-put-requires-8 : tie.Need-put-requires-8
-put-requires-8 c κs = search rules
+put_requires_8 : tie.Need-put-requires-8
+put_requires_8 c κs = search rules
 
-same-length-8 : tie.Need-same-length-8
-same-length-8 c = search rules
+same-length_8 : tie.Need-same-length-8
+same-length_8 c = search rules
 
-returns-8 : tie.Need-returns-8
-unfolding differsText bytes
-returns-8 c =
+returns_8 : tie.Need-returns-8
+unfolding differs_text bytes
+returns_8 c =
     rw (
       ne_eqb _ 1 c.before.before.before.before.before.before.before.before.before.before.before.if1.false,
       ne_eqb _ 2 c.before.before.before.before.before.before.before.before.before.before.if2.false,
@@ -166,39 +166,39 @@ returns-8 c =
     )
     c.before.before.put8.ensures
 
-pub put-differs-spec : {M : Type 1} → statement M
-put-differs-spec =
+pub put-differs_spec : {M : Type 1} → statement M
+put-differs_spec =
     tie.close
     (tie.spec
-    slice-aggregate-put
-    put-requires
+    slice_aggregate_put
+    put_requires
     same_length
     returns
-    slice-aggregate-put-2
-    put-requires-2
-    same-length-2
-    returns-2
-    slice-aggregate-put-3
-    put-requires-3
-    same-length-3
-    returns-3
-    slice-aggregate-put-4
-    put-requires-4
-    same-length-4
-    returns-4
-    slice-aggregate-put-5
-    put-requires-5
-    same-length-5
-    returns-5
-    slice-aggregate-put-6
-    put-requires-6
-    same-length-6
-    returns-6
-    slice-aggregate-put-7
-    put-requires-7
-    same-length-7
-    returns-7
-    slice-aggregate-put-8
-    put-requires-8
-    same-length-8
-    returns-8)
+    slice_aggregate_put_2
+    put_requires_2
+    same-length_2
+    returns_2
+    slice_aggregate_put_3
+    put_requires_3
+    same-length_3
+    returns_3
+    slice_aggregate_put_4
+    put_requires_4
+    same-length_4
+    returns_4
+    slice_aggregate_put_5
+    put_requires_5
+    same-length_5
+    returns_5
+    slice_aggregate_put_6
+    put_requires_6
+    same-length_6
+    returns_6
+    slice_aggregate_put_7
+    put_requires_7
+    same-length_7
+    returns_7
+    slice_aggregate_put_8
+    put_requires_8
+    same-length_8
+    returns_8)

@@ -4,8 +4,8 @@ use borrow.Author.Rules.{rules}
 use Rattle.visits.proofs.is_visited.Statement.{statement}
 use Rattle.visits.proofs.is_visited.Tie as tie
 
-pair-at-requires : tie.Need-pair-at-requires
-pair-at-requires c κs = search rules
+pair-at_requires : tie.Need-pair-at-requires
+pair-at_requires c κs = search rules
 
 mul-bit-at : tie.Need-overflow-mul-bit-at
 mul-bit-at c = search rules
@@ -13,28 +13,28 @@ mul-bit-at c = search rules
 sub-bit-at : tie.Need-overflow-sub-bit-at
 sub-bit-at c = search rules
 
-part-bit-at-start : tie.Need-slice-bounds-bit-at-start
-part-bit-at-start c = search rules
+part-bit-at_start : tie.Need-slice-bounds-bit-at-start
+part-bit-at_start c = search rules
 
 part-bit-at-end : tie.Need-slice-bounds-bit-at-end
 part-bit-at-end c = search rules
 
-bit-at-requires : tie.Need-bit-at-requires
-bit-at-requires c κs = search rules
+bit-at_requires : tie.Need-bit-at-requires
+bit-at_requires c κs = search rules
 
 returns : tie.Need-returns
 returns c =
     let start = c.before.before.before.before in
     read-bit _ _ _ start.requires.3 c.before.before.pair-at.ensures c.bit_at.ensures
 
-pub is-visited-spec : {M : Type 1} → statement M
-is-visited-spec =
+pub is-visited_spec : {M : Type 1} → statement M
+is-visited_spec =
     tie.close
     (tie.spec
-    pair-at-requires
+    pair-at_requires
     mul-bit-at
     sub-bit-at
-    part-bit-at-start
+    part-bit-at_start
     part-bit-at-end
-    bit-at-requires
+    bit-at_requires
     returns)

@@ -10,20 +10,20 @@ use Rattle.visits.proofs.pair_at.Lts as lts
 top : (c : lts.Start reads.Pre reads.Post) → Square c.args.n c.args.i.0 c.args.j.0
 top c = square _ _ _ c.requires.0 c.requires.1 c.requires.2
 
-cast-result : tie.Need-overflow-cast-result
-cast-result c = search rules
+cast_result : tie.Need-overflow-cast-result
+cast_result c = search rules
 
-mul-result : tie.Need-overflow-mul-result
-mul-result c = let s = top c.before in omega arith
+mul_result : tie.Need-overflow-mul-result
+mul_result c = let s = top c.before in omega arith
 
-cast-result-2 : tie.Need-overflow-cast-result-2
-cast-result-2 c = search rules
+cast_result_2 : tie.Need-overflow-cast-result-2
+cast_result_2 c = search rules
 
-add-result : tie.Need-overflow-add-result
-add-result c = let s = top c.before.before in omega arith
+add_result : tie.Need-overflow-add-result
+add_result c = let s = top c.before.before in omega arith
 
 returns : tie.Need-returns
 returns c = let p = c.before.before.requires in pair_place _ _ _ p.0 p.1 p.2
 
-pub pair-at-spec : {M : Type 1} → statement M
-pair-at-spec = tie.close (tie.spec cast-result mul-result cast-result-2 add-result returns)
+pub pair-at_spec : {M : Type 1} → statement M
+pair-at_spec = tie.close (tie.spec cast_result mul_result cast_result_2 add_result returns)

@@ -11,11 +11,11 @@ use Rattle.zeros.proofs.zero_bits.Tie as tie
 returns : tie.Need-returns
 returns c = bits-nan _ (differs_from_itself _ (subst T (sym c.if1.true) tt))
 
-float-to-bits-result : tie.Need-float-to-bits-result
-float-to-bits-result c = number _ c.if1.false
+float_to-bits_result : tie.Need-float-to-bits-result
+float_to-bits_result c = number _ c.if1.false
 
-returns-2 : tie.Need-returns-2
-returns-2 c = search rules
+returns_2 : tie.Need-returns-2
+returns_2 c = search rules
 
-pub zero-bits-spec : {M : Type 1} → statement M
-zero-bits-spec = tie.close (tie.spec returns float-to-bits-result returns-2)
+pub zero-bits_spec : {M : Type 1} → statement M
+zero-bits_spec = tie.close (tie.spec returns float_to-bits_result returns_2)

@@ -8,5 +8,5 @@ use Rattle.name_counters.proofs.rooms.floats_room.Tie as tie
 returns : tie.Need-returns
 returns c = sym (length-replicate {A = Float} 167936 (of_bits binary32 0))
 
-pub floats-room-spec : {M : Type 1} → statement M
-floats-room-spec = tie.close (tie.spec returns)
+pub floats-room_spec : {M : Type 1} → statement M
+floats-room_spec = tie.close (tie.spec returns)

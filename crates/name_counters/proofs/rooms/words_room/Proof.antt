@@ -7,5 +7,5 @@ use Rattle.name_counters.proofs.rooms.words_room.Tie as tie
 returns : tie.Need-returns
 returns c = sym (length-replicate {A = ℕ} 167936 0)
 
-pub words-room-spec : {M : Type 1} → statement M
-words-room-spec = tie.close (tie.spec returns)
+pub words-room_spec : {M : Type 1} → statement M
+words-room_spec = tie.close (tie.spec returns)

@@ -7,14 +7,14 @@ use Rattle.refusals_descent.proofs.call.uncounted.Tie as tie
 enum_told : tie.Need-enum-told
 enum_told c = search rules
 
-enum-known-begun : tie.Need-enum-known-begun
-enum-known-begun c = search rules
+enum_known-begun : tie.Need-enum-known-begun
+enum_known-begun c = search rules
 
 returns : tie.Need-returns
 returns c = counted-done _ c.enum_told.given.1
 
-returns-2 : tie.Need-returns-2
-returns-2 c = counted-refused _ _ c.before.begun.given.1
+returns_2 : tie.Need-returns-2
+returns_2 c = counted-refused _ _ c.before.begun.given.1
 
-pub uncounted-spec : {M : Type 1} → statement M
-uncounted-spec = tie.close (tie.spec enum_told enum-known-begun returns returns-2)
+pub uncounted_spec : {M : Type 1} → statement M
+uncounted_spec = tie.close (tie.spec enum_told enum_known-begun returns returns_2)

@@ -5,14 +5,14 @@ use borrow.Author.Rules.{rules}
 use Rattle.refusals_descent.proofs.given.put_float.Statement.{statement}
 use Rattle.refusals_descent.proofs.given.put_float.Tie as tie
 
-float-of-requires : tie.Need-float-of-requires
-float-of-requires c κs = search rules
+float_of_requires : tie.Need-float-of-requires
+float_of_requires c κs = search rules
 
 mul-floats : tie.Need-overflow-mul-floats
 mul-floats c = search rules
 
-slice-write-floats : tie.Need-slice-write-floats
-slice-write-floats c = search rules
+slice_write_floats : tie.Need-slice-write-floats
+slice_write_floats c = search rules
 
 same_length : tie.Need-same-length
 same_length c = search rules
@@ -20,10 +20,10 @@ same_length c = search rules
 returns : tie.Need-returns
 returns c = rw c.float_of.ensures
 
-returns-2 : tie.Need-returns-2
-returns-2 c = sym (set_out _ _ _ (search rules))
+returns_2 : tie.Need-returns-2
+returns_2 c = sym (set_out _ _ _ (search rules))
 
-pub put-float-spec : {M : Type 1} → statement M
-put-float-spec =
+pub put_float_spec : {M : Type 1} → statement M
+put_float_spec =
     tie.close
-    (tie.spec float-of-requires mul-floats slice-write-floats same_length returns returns-2)
+    (tie.spec float_of_requires mul-floats slice_write_floats same_length returns returns_2)

@@ -4,76 +4,76 @@ use Rattle.std.proofs.Common.{rules}
 use Rattle.refusals_relay.proofs.given.lent_of.Statement.{statement}
 use Rattle.refusals_relay.proofs.given.lent_of.Tie as tie
 
-array-read-wide : tie.Need-array-read-wide
-array-read-wide c = search rules
+array_read-wide : tie.Need-array-read-wide
+array_read-wide c = search rules
 
-wide-requires : tie.Need-wide-requires
-wide-requires c κs = search rules
+wide_requires : tie.Need-wide-requires
+wide_requires c κs = search rules
 
-array-read-wide-2 : tie.Need-array-read-wide-2
-array-read-wide-2 c = search rules
+array_read-wide_2 : tie.Need-array-read-wide-2
+array_read-wide_2 c = search rules
 
-wide-requires-2 : tie.Need-wide-requires-2
-wide-requires-2 c κs = search rules
+wide_requires_2 : tie.Need-wide-requires-2
+wide_requires_2 c κs = search rules
 
-array-read-wide-3 : tie.Need-array-read-wide-3
-array-read-wide-3 c = search rules
+array_read-wide_3 : tie.Need-array-read-wide-3
+array_read-wide_3 c = search rules
 
-wide-requires-3 : tie.Need-wide-requires-3
-wide-requires-3 c κs = search rules
+wide_requires_3 : tie.Need-wide-requires-3
+wide_requires_3 c κs = search rules
 
-array-read-wide-4 : tie.Need-array-read-wide-4
-array-read-wide-4 c = search rules
+array_read-wide_4 : tie.Need-array-read-wide-4
+array_read-wide_4 c = search rules
 
-wide-requires-4 : tie.Need-wide-requires-4
-wide-requires-4 c κs = search rules
+wide_requires_4 : tie.Need-wide-requires-4
+wide_requires_4 c κs = search rules
 
-array-read-wide-5 : tie.Need-array-read-wide-5
-array-read-wide-5 c = search rules
+array_read-wide_5 : tie.Need-array-read-wide-5
+array_read-wide_5 c = search rules
 
-wide-requires-5 : tie.Need-wide-requires-5
-wide-requires-5 c κs = search rules
+wide_requires_5 : tie.Need-wide-requires-5
+wide_requires_5 c κs = search rules
 
-array-read-wide-6 : tie.Need-array-read-wide-6
-array-read-wide-6 c = search rules
+array_read-wide_6 : tie.Need-array-read-wide-6
+array_read-wide_6 c = search rules
 
-wide-requires-6 : tie.Need-wide-requires-6
-wide-requires-6 c κs = search rules
+wide_requires_6 : tie.Need-wide-requires-6
+wide_requires_6 c κs = search rules
 
-array-read-wide-7 : tie.Need-array-read-wide-7
-array-read-wide-7 c = search rules
+array_read-wide_7 : tie.Need-array-read-wide-7
+array_read-wide_7 c = search rules
 
-wide-requires-7 : tie.Need-wide-requires-7
-wide-requires-7 c κs = search rules
+wide_requires_7 : tie.Need-wide-requires-7
+wide_requires_7 c κs = search rules
 
-array-read-wide-8 : tie.Need-array-read-wide-8
-array-read-wide-8 c = search rules
+array_read-wide_8 : tie.Need-array-read-wide-8
+array_read-wide_8 c = search rules
 
-wide-requires-8 : tie.Need-wide-requires-8
-wide-requires-8 c κs = search rules
+wide_requires_8 : tie.Need-wide-requires-8
+wide_requires_8 c κs = search rules
 
 returns : tie.Need-returns
 unfolding lent_of
 returns c = rw (c.before.before.before.before.before.before.before.wide.ensures, c.before.before.before.before.before.before.wide2.ensures, c.before.before.before.before.before.wide3.ensures, c.before.before.before.before.wide4.ensures, c.before.before.before.wide5.ensures, c.before.before.wide6.ensures, c.before.wide7.ensures, c.wide8.ensures)
 
-pub lent-of-spec : {M : Type 1} → statement M
-lent-of-spec =
+pub lent_of_spec : {M : Type 1} → statement M
+lent_of_spec =
     tie.close
     (tie.spec
-    array-read-wide
-    wide-requires
-    array-read-wide-2
-    wide-requires-2
-    array-read-wide-3
-    wide-requires-3
-    array-read-wide-4
-    wide-requires-4
-    array-read-wide-5
-    wide-requires-5
-    array-read-wide-6
-    wide-requires-6
-    array-read-wide-7
-    wide-requires-7
-    array-read-wide-8
-    wide-requires-8
+    array_read-wide
+    wide_requires
+    array_read-wide_2
+    wide_requires_2
+    array_read-wide_3
+    wide_requires_3
+    array_read-wide_4
+    wide_requires_4
+    array_read-wide_5
+    wide_requires_5
+    array_read-wide_6
+    wide_requires_6
+    array_read-wide_7
+    wide_requires_7
+    array_read-wide_8
+    wide_requires_8
     returns)

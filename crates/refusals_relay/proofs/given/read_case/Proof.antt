@@ -4,17 +4,17 @@ use Rattle.std.proofs.Common.{rules}
 use Rattle.refusals_relay.proofs.given.read_case.Statement.{statement}
 use Rattle.refusals_relay.proofs.given.read_case.Tie as tie
 
-slice-aggregate-read-words : tie.Need-slice-aggregate-read-words
-slice-aggregate-read-words c = search rules
+slice_aggregate_read-words : tie.Need-slice-aggregate-read-words
+slice_aggregate_read-words c = search rules
 
-read-words-requires : tie.Need-read-words-requires
-read-words-requires c κs = search rules
+read-words_requires : tie.Need-read-words-requires
+read-words_requires c κs = search rules
 
-lent-of-requires : tie.Need-lent-of-requires
-lent-of-requires c κs = search rules
+lent_of_requires : tie.Need-lent-of-requires
+lent_of_requires c κs = search rules
 
-state-of-requires : tie.Need-state-of-requires
-state-of-requires c κs = search rules
+state_of_requires : tie.Need-state-of-requires
+state_of_requires c κs = search rules
 
 returns : tie.Need-returns
 unfolding case_at
@@ -22,12 +22,12 @@ returns c =
     let read = c.before.before.before.read-words.ensures in
     rw (c.before.lent_of.ensures, c.state-of.ensures, read.0, read.1)
 
-pub read-case-spec : {M : Type 1} → statement M
-read-case-spec =
+pub read_case_spec : {M : Type 1} → statement M
+read_case_spec =
     tie.close
     (tie.spec
-    slice-aggregate-read-words
-    read-words-requires
-    lent-of-requires
-    state-of-requires
+    slice_aggregate_read-words
+    read-words_requires
+    lent_of_requires
+    state_of_requires
     returns)

@@ -4,14 +4,14 @@ use Rattle.std.proofs.Common.{rules}
 use Rattle.refusals_search.proofs.given.read_case.Statement.{statement}
 use Rattle.refusals_search.proofs.given.read_case.Tie as tie
 
-slice-aggregate-read-words : tie.Need-slice-aggregate-read-words
-slice-aggregate-read-words c = search rules
+slice_aggregate_read-words : tie.Need-slice-aggregate-read-words
+slice_aggregate_read-words c = search rules
 
-read-words-requires : tie.Need-read-words-requires
-read-words-requires c κs = search rules
+read-words_requires : tie.Need-read-words-requires
+read-words_requires c κs = search rules
 
-call-of-requires : tie.Need-call-of-requires
-call-of-requires c κs = search rules
+call_of_requires : tie.Need-call-of-requires
+call_of_requires c κs = search rules
 
 returns : tie.Need-returns
 unfolding case_at
@@ -19,6 +19,6 @@ returns c =
     let read = c.before.before.read-words.ensures in
     rw (c.call-of.ensures, read.0, read.1)
 
-pub read-case-spec : {M : Type 1} → statement M
-read-case-spec =
-    tie.close (tie.spec slice-aggregate-read-words read-words-requires call-of-requires returns)
+pub read_case_spec : {M : Type 1} → statement M
+read_case_spec =
+    tie.close (tie.spec slice_aggregate_read-words read-words_requires call_of_requires returns)

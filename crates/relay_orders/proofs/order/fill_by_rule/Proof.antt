@@ -1,76 +1,76 @@
 -- `relay_orders::order::fill_by_rule` meets its contract: the first `i` places are filled. Assumes nothing.
 use Rattle.std.proofs.Common.{◌-◌, length, arith, rules}
 use Rattle.relay_orders.specs.Order.{ruled}
-use Rattle.relay_orders.proofs.Laws.{Filling, filling-none, filling-turn, filling-end, ruled-none, ruled-turn, ruled-end}
+use Rattle.relay_orders.proofs.Laws.{Filling, filling_none, filling_turn, filling_end, ruled_none, ruled_turn, ruled-end}
 use Rattle.relay_orders.proofs.order.fill_by_rule.Statement.{statement}
 use Rattle.relay_orders.proofs.order.fill_by_rule.Tie as tie
 
-abbrev invariant-loop : tie.invariant-loop
-invariant-loop order₀ kind count i₀ up₀ down₀ order i up down =
+abbrev invariant_loop : tie.invariant-loop
+invariant_loop order₀ kind count i₀ up₀ down₀ order i up down =
     Filling (ruled kind count (length order₀) up₀ down₀) order₀ order i (ruled kind count (length order₀ - i) up down)
 
-abbrev decreases-loop : tie.decreases-loop
-decreases-loop order₀ kind count i₀ up₀ down₀ order i up down = length order₀ - i
+abbrev decreases_loop : tie.decreases-loop
+decreases_loop order₀ kind count i₀ up₀ down₀ order i up down = length order₀ - i
 
-mul-down : tie.Need-overflow-mul-down invariant-loop decreases-loop
+mul-down : tie.Need-overflow-mul-down invariant_loop decreases_loop
 mul-down c = search rules
 
-loop-holds : tie.Need-loop-init invariant-loop decreases-loop
-loop-holds c = filling-none (ruled-none _ _ _ _ _)
+loop_holds : tie.Need-loop-init invariant_loop decreases_loop
+loop_holds c = filling_none (ruled_none _ _ _ _ _)
 
-wrapping-sub-u32-requires : tie.Need-wrapping-sub-u32-requires invariant-loop decreases-loop
-wrapping-sub-u32-requires c κs = search rules
+wrapping_sub_u32_requires : tie.Need-wrapping-sub-u32-requires invariant_loop decreases_loop
+wrapping_sub_u32_requires c κs = search rules
 
-job-of-requires : tie.Need-job-of-requires invariant-loop decreases-loop
-job-of-requires c κs = search rules
+job_of_requires : tie.Need-job-of-requires invariant_loop decreases_loop
+job_of_requires c κs = search rules
 
-mul-order : tie.Need-overflow-mul-order invariant-loop decreases-loop
+mul-order : tie.Need-overflow-mul-order invariant_loop decreases_loop
 mul-order c = search rules
 
-slice-write-order : tie.Need-slice-write-order invariant-loop decreases-loop
-slice-write-order c = search rules
+slice_write_order : tie.Need-slice-write-order invariant_loop decreases_loop
+slice_write_order c = search rules
 
-wrapping-add-u32-requires : tie.Need-wrapping-add-u32-requires invariant-loop decreases-loop
-wrapping-add-u32-requires c κs = search rules
+wrapping_add_u32_requires : tie.Need-wrapping-add-u32-requires invariant_loop decreases_loop
+wrapping_add_u32_requires c κs = search rules
 
-add-i : tie.Need-overflow-add-i invariant-loop decreases-loop
-add-i c = search rules
+add_i : tie.Need-overflow-add-i invariant_loop decreases_loop
+add_i c = search rules
 
-loop-less : tie.Need-loop-smaller invariant-loop decreases-loop
-loop-less c = search rules
+loop_less : tie.Need-loop-smaller invariant_loop decreases_loop
+loop_less c = search rules
 
-loop-again : tie.Need-loop-preserved invariant-loop decreases-loop
-loop-again c =
+loop_again : tie.Need-loop-preserved invariant_loop decreases_loop
+loop_again c =
     let at = c.before.before.before.before in
     let long = at.loop.invariant.long in
-    filling-turn at.loop.invariant
-    (ruled-turn _ _ _ _ _ _ c.wrapping-add-u32.ensures c.before.before.wrapping-sub-u32.ensures (search rules) c.before.Job-of.ensures (omega arith))
+    filling_turn at.loop.invariant
+    (ruled_turn _ _ _ _ _ _ c.wrapping-add-u32.ensures c.before.before.wrapping-sub-u32.ensures (search rules) c.before.Job-of.ensures (omega arith))
     (omega arith)
 
-same_length : tie.Need-same-length invariant-loop decreases-loop
+same_length : tie.Need-same-length invariant_loop decreases_loop
 same_length c = c.before.loop.invariant.long
 
-returns : tie.Need-returns invariant-loop decreases-loop
+returns : tie.Need-returns invariant_loop decreases_loop
 returns c =
     let at = c.before in
     let long = at.loop.invariant.long in
-    filling-end at.loop.invariant (ruled-end _ _ _ _ _ _ (omega arith)) (omega arith)
+    filling_end at.loop.invariant (ruled-end _ _ _ _ _ _ (omega arith)) (omega arith)
 
-pub fill-by-rule-spec : {M : Type 1} → statement M
-fill-by-rule-spec =
+pub fill_by_rule_spec : {M : Type 1} → statement M
+fill_by_rule_spec =
     tie.close
     (tie.spec
-    invariant-loop
-    decreases-loop
+    invariant_loop
+    decreases_loop
     mul-down
-    loop-holds
-    wrapping-sub-u32-requires
-    job-of-requires
+    loop_holds
+    wrapping_sub_u32_requires
+    job_of_requires
     mul-order
-    slice-write-order
-    wrapping-add-u32-requires
-    add-i
-    loop-less
-    loop-again
+    slice_write_order
+    wrapping_add_u32_requires
+    add_i
+    loop_less
+    loop_again
     same_length
     returns)

@@ -4,31 +4,31 @@ use Rattle.relay_orders.specs.Order.{job_of}
 use Rattle.relay_orders.proofs.order.job_of.Statement.{statement}
 use Rattle.relay_orders.proofs.order.job_of.Tie as tie
 
-remainder-requires : tie.Need-remainder-requires
-remainder-requires c κs = search rules
+remainder_requires : tie.Need-remainder-requires
+remainder_requires c κs = search rules
 
-remainder-requires-2 : tie.Need-remainder-requires-2
-remainder-requires-2 c κs = search rules
+remainder_requires_2 : tie.Need-remainder-requires-2
+remainder_requires_2 c κs = search rules
 
 returns : tie.Need-returns
 unfolding job_of
 returns c = rw c.before.match.keys1 c.remainder.ensures
 
-returns-2 : tie.Need-returns-2
+returns_2 : tie.Need-returns-2
 unfolding job_of
-returns-2 c = rw c.match.keys2
+returns_2 c = rw c.match.keys2
 
-returns-3 : tie.Need-returns-3
+returns_3 : tie.Need-returns-3
 unfolding job_of
-returns-3 c = rw c.before.match.keys3 c.remainder2.ensures
+returns_3 c = rw c.before.match.keys3 c.remainder2.ensures
 
-returns-4 : tie.Need-returns-4
+returns_4 : tie.Need-returns-4
 unfolding job_of
-returns-4 c =
+returns_4 c =
     let no = c.match.rest in
     rw (ne_eqb _ _ no.0.0.1, ne_eqb _ _ no.0.1, ne_eqb _ _ no.1)
 
-pub job-of-spec : {M : Type 1} → statement M
-job-of-spec =
+pub job_of_spec : {M : Type 1} → statement M
+job_of_spec =
     tie.close
-    (tie.spec remainder-requires remainder-requires-2 returns returns-2 returns-3 returns-4)
+    (tie.spec remainder_requires remainder_requires_2 returns returns_2 returns_3 returns_4)

@@ -8,37 +8,37 @@ returns : tie.Need-returns
 unfolding lane_of
 returns c = rw c.match.keys1
 
-returns-2 : tie.Need-returns-2
+returns_2 : tie.Need-returns-2
 unfolding lane_of
-returns-2 c = rw c.match.keys2
+returns_2 c = rw c.match.keys2
 
-returns-3 : tie.Need-returns-3
+returns_3 : tie.Need-returns-3
 unfolding lane_of
-returns-3 c = rw c.match.keys3
+returns_3 c = rw c.match.keys3
 
-returns-4 : tie.Need-returns-4
+returns_4 : tie.Need-returns-4
 unfolding lane_of
-returns-4 c = rw c.match.keys4
+returns_4 c = rw c.match.keys4
 
-returns-5 : tie.Need-returns-5
+returns_5 : tie.Need-returns-5
 unfolding lane_of
-returns-5 c = rw c.match.keys5
+returns_5 c = rw c.match.keys5
 
-returns-6 : tie.Need-returns-6
+returns_6 : tie.Need-returns-6
 unfolding lane_of
-returns-6 c = rw c.match.keys6
+returns_6 c = rw c.match.keys6
 
-returns-7 : tie.Need-returns-7
+returns_7 : tie.Need-returns-7
 unfolding lane_of
-returns-7 c = rw c.match.keys7
+returns_7 c = rw c.match.keys7
 
-returns-8 : tie.Need-returns-8
+returns_8 : tie.Need-returns-8
 unfolding lane_of
-returns-8 c =
+returns_8 c =
     let no = c.match.rest in
     rw (ne_eqb _ _ no.0.0.0.0.0.0.1, ne_eqb _ _ no.0.0.0.0.0.1, ne_eqb _ _ no.0.0.0.0.1, ne_eqb _ _ no.0.0.0.1, ne_eqb _ _ no.0.0.1, ne_eqb _ _ no.0.1, ne_eqb _ _ no.1)
 
-pub lane-of-spec : {M : Type 1} → statement M
-lane-of-spec =
+pub lane_of_spec : {M : Type 1} → statement M
+lane_of_spec =
     tie.close
-    (tie.spec returns returns-2 returns-3 returns-4 returns-5 returns-6 returns-7 returns-8)
+    (tie.spec returns returns_2 returns_3 returns_4 returns_5 returns_6 returns_7 returns_8)

@@ -8,12 +8,12 @@ returns : tie.Need-returns
 unfolding remainder
 returns c = rw (eq-eqb _ _ c.if1.true)
 
-rem-result : tie.Need-nonzero-rem-result
-rem-result c = search rules
+rem_result : tie.Need-nonzero-rem-result
+rem_result c = search rules
 
-returns-2 : tie.Need-returns-2
+returns_2 : tie.Need-returns-2
 unfolding remainder
-returns-2 c = rw (ne_eqb _ _ c.if1.false)
+returns_2 c = rw (ne_eqb _ _ c.if1.false)
 
-pub remainder-spec : {M : Type 1} → statement M
-remainder-spec = tie.close (tie.spec returns rem-result returns-2)
+pub remainder_spec : {M : Type 1} → statement M
+remainder_spec = tie.close (tie.spec returns rem_result returns_2)

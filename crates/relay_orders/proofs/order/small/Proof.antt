@@ -5,16 +5,16 @@ use Rattle.relay_orders.specs.Order.{small}
 use Rattle.relay_orders.proofs.order.small.Statement.{statement}
 use Rattle.relay_orders.proofs.order.small.Tie as tie
 
-cast-result : tie.Need-overflow-cast-result
-cast-result c = search rules
+cast_result : tie.Need-overflow-cast-result
+cast_result c = search rules
 
 returns : tie.Need-returns
 unfolding small
 returns c = (rw (le-leb _ _ c.if1.true), search rules)
 
-returns-2 : tie.Need-returns-2
+returns_2 : tie.Need-returns-2
 unfolding small
-returns-2 c = (rw (lt-leb _ _ c.if1.false), search rules)
+returns_2 c = (rw (lt-leb _ _ c.if1.false), search rules)
 
 pub small_spec : {M : Type 1} → statement M
-small_spec = tie.close (tie.spec cast-result returns returns-2)
+small_spec = tie.close (tie.spec cast_result returns returns_2)

@@ -4,14 +4,14 @@ use borrow.Author.Rules.{rules}
 use Rattle.replay_build.proofs.shape.read_shape.Statement.{statement}
 use Rattle.replay_build.proofs.shape.read_shape.Tie as tie
 
-read-size-requires : tie.Need-read-size-requires
-read-size-requires c κs = search rules
+read-size_requires : tie.Need-read-size-requires
+read-size_requires c κs = search rules
 
-read-size-requires-2 : tie.Need-read-size-requires-2
-read-size-requires-2 c κs = search rules
+read-size_requires_2 : tie.Need-read-size-requires-2
+read-size_requires_2 c κs = search rules
 
-read-params-requires : tie.Need-read-params-requires
-read-params-requires c κs = search rules
+read-params_requires : tie.Need-read-params-requires
+read-params_requires c κs = search rules
 
 returns : tie.Need-returns
 unfolding shape_at
@@ -20,5 +20,5 @@ returns c =
     let n = c.before.read-size2.ensures.0 in
     rw (c.read-params.ensures, n, d)
 
-pub read-shape-spec : {M : Type 1} → statement M
-read-shape-spec = tie.close (tie.spec read-size-requires read-size-requires-2 read-params-requires returns)
+pub read_shape_spec : {M : Type 1} → statement M
+read_shape_spec = tie.close (tie.spec read-size_requires read-size_requires_2 read-params_requires returns)

@@ -4,17 +4,17 @@ use borrow.Author.Rules.{rules}
 use Rattle.replay_descent.proofs.shape.read_shape.Statement.{statement}
 use Rattle.replay_descent.proofs.shape.read_shape.Tie as tie
 
-read-size-requires : tie.Need-read-size-requires
-read-size-requires c κs = search rules
+read-size_requires : tie.Need-read-size-requires
+read-size_requires c κs = search rules
 
-read-size-requires-2 : tie.Need-read-size-requires-2
-read-size-requires-2 c κs = search rules
+read-size_requires_2 : tie.Need-read-size-requires-2
+read-size_requires_2 c κs = search rules
 
-read-size-requires-3 : tie.Need-read-size-requires-3
-read-size-requires-3 c κs = search rules
+read-size_requires_3 : tie.Need-read-size-requires-3
+read-size_requires_3 c κs = search rules
 
-read-size-requires-4 : tie.Need-read-size-requires-4
-read-size-requires-4 c κs = search rules
+read-size_requires_4 : tie.Need-read-size-requires-4
+read-size_requires_4 c κs = search rules
 
 returns : tie.Need-returns
 unfolding shape_at
@@ -24,5 +24,5 @@ returns c =
     let k = c.before.before.read-size3.ensures.0 in
     rw (c.before.read-size4.ensures.0, k, n, d)
 
-pub read-shape-spec : {M : Type 1} → statement M
-read-shape-spec = tie.close (tie.spec read-size-requires read-size-requires-2 read-size-requires-3 read-size-requires-4 returns)
+pub read_shape_spec : {M : Type 1} → statement M
+read_shape_spec = tie.close (tie.spec read-size_requires read-size_requires_2 read-size_requires_3 read-size_requires_4 returns)

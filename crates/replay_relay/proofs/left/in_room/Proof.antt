@@ -6,11 +6,11 @@ use Rattle.replay_relay.specs.Left.{room_at}
 use Rattle.replay_relay.proofs.left.in_room.Statement.{statement}
 use Rattle.replay_relay.proofs.left.in_room.Tie as tie
 
-least-requires : tie.Need-least-requires
-least-requires c κs = search rules
+least_requires : tie.Need-least-requires
+least_requires c κs = search rules
 
-outside-requires : tie.Need-outside-requires
-outside-requires c κs = search rules
+outside_requires : tie.Need-outside-requires
+outside_requires c κs = search rules
 
 returns : tie.Need-returns
 unfolding room_at
@@ -20,12 +20,12 @@ returns c =
     let short = c.before.if1.true in
     rw (c.outside.ensures, lt-leb (a.from + a.long) (min (length a.words.now) (length a.floats.now)) (omega (arith, short, room.least.ensures)))
 
-outside-requires-2 : tie.Need-outside-requires-2
-outside-requires-2 c κs = search rules
+outside_requires_2 : tie.Need-outside-requires-2
+outside_requires_2 c κs = search rules
 
-returns-2 : tie.Need-returns-2
+returns_2 : tie.Need-returns-2
 unfolding room_at
-returns-2 c =
+returns_2 c =
     let room = c.before.before.before in
     let a = room.before.before.before.before.args in
     let long = c.before.before.if1.false in
@@ -35,58 +35,58 @@ returns-2 c =
 add-to : tie.Need-overflow-add-to
 add-to c = search rules
 
-mul-beside : tie.Need-overflow-mul-beside
-mul-beside c = search rules
+mul_beside : tie.Need-overflow-mul-beside
+mul_beside c = search rules
 
-sub-beside : tie.Need-overflow-sub-beside
-sub-beside c = search rules
+sub_beside : tie.Need-overflow-sub-beside
+sub_beside c = search rules
 
-part-beside-start : tie.Need-slice-bounds-beside-start
-part-beside-start c = search rules
+part_beside_start : tie.Need-slice-bounds-beside-start
+part_beside_start c = search rules
 
-part-beside-end : tie.Need-slice-bounds-beside-end
-part-beside-end c = search rules
+part_beside_end : tie.Need-slice-bounds-beside-end
+part_beside_end c = search rules
 
-mul-beside-2 : tie.Need-overflow-mul-beside-2
-mul-beside-2 c = search rules
+mul_beside_2 : tie.Need-overflow-mul-beside-2
+mul_beside_2 c = search rules
 
-sub-beside-2 : tie.Need-overflow-sub-beside-2
-sub-beside-2 c = search rules
+sub_beside_2 : tie.Need-overflow-sub-beside-2
+sub_beside_2 c = search rules
 
-part-beside-start-2 : tie.Need-slice-bounds-beside-start-2
-part-beside-start-2 c = search rules
+part_beside_start_2 : tie.Need-slice-bounds-beside-start-2
+part_beside_start_2 c = search rules
 
-part-beside-end-2 : tie.Need-slice-bounds-beside-end-2
-part-beside-end-2 c = search rules
+part_beside_end_2 : tie.Need-slice-bounds-beside-end-2
+part_beside_end_2 c = search rules
 
-beside-requires : tie.Need-beside-requires
-beside-requires c κs = search rules
+beside_requires : tie.Need-beside-requires
+beside_requires c κs = search rules
 
-returns-3 : tie.Need-returns-3
+returns_3 : tie.Need-returns-3
 unfolding room_at
-returns-3 c =
+returns_3 c =
     let fits = c.before.before.before in
     let room = fits.before.before in
     let a = room.before.before.before.before.args in
     rw (c.beside.ensures, le-leb (a.from + a.long) (min (length a.words.now) (length a.floats.now)) (omega (arith, fits.if2.false, fits.before.if1.false, room.least.ensures)), add-sub a.from a.long)
 
-pub in-room-spec : {M : Type 1} → statement M
-in-room-spec =
+pub in_room_spec : {M : Type 1} → statement M
+in_room_spec =
     tie.close
     (tie.spec
-    least-requires
-    outside-requires
+    least_requires
+    outside_requires
     returns
-    outside-requires-2
-    returns-2
+    outside_requires_2
+    returns_2
     add-to
-    mul-beside
-    sub-beside
-    part-beside-start
-    part-beside-end
-    mul-beside-2
-    sub-beside-2
-    part-beside-start-2
-    part-beside-end-2
-    beside-requires
-    returns-3)
+    mul_beside
+    sub_beside
+    part_beside_start
+    part_beside_end
+    mul_beside_2
+    sub_beside_2
+    part_beside_start_2
+    part_beside_end_2
+    beside_requires
+    returns_3)

@@ -1,25 +1,25 @@
 -- `replay_relay::left::outside` meets its contract. Assumes nothing.
-use Rattle.replay_relay.specs.Left.{outsideAt}
+use Rattle.replay_relay.specs.Left.{outside_at}
 use Rattle.std.proofs.Common.{rules}
 use Rattle.replay_relay.proofs.left.outside.Statement.{statement}
 use Rattle.replay_relay.proofs.left.outside.Tie as tie
 
-area-requires : tie.Need-area-requires
-area-requires c κs = search rules
+area_requires : tie.Need-area-requires
+area_requires c κs = search rules
 
-pass-requires : tie.Need-pass-requires
-pass-requires c κs = search rules
+pass_requires : tie.Need-pass-requires
+pass_requires c κs = search rules
 
-at-requires : tie.Need-at-requires
-at-requires c κs = search rules
+at_requires : tie.Need-at-requires
+at_requires c κs = search rules
 
-and-requires : tie.Need-and-requires
-and-requires c κs = search rules
+and_requires : tie.Need-and-requires
+and_requires c κs = search rules
 
 returns : tie.Need-returns
-unfolding outsideAt
+unfolding outside_at
 returns c =
     rw (c.and.ensures, c.before.at.ensures, c.before.before.pass.ensures, c.before.before.before.area.ensures.0)
 
-pub outside-spec : {M : Type 1} → statement M
-outside-spec = tie.close (tie.spec area-requires pass-requires at-requires and-requires returns)
+pub outside_spec : {M : Type 1} → statement M
+outside_spec = tie.close (tie.spec area_requires pass_requires at_requires and_requires returns)

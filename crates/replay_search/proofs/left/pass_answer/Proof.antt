@@ -4,21 +4,21 @@ use borrow.Author.Rules.{rules}
 use Rattle.replay_search.proofs.left.pass_answer.Statement.{statement}
 use Rattle.replay_search.proofs.left.pass_answer.Tie as tie
 
-read-m-requires : tie.Need-read-m-requires
-read-m-requires c κs = search rules
+read-m_requires : tie.Need-read-m-requires
+read-m_requires c κs = search rules
 
-mul-pass : tie.Need-overflow-mul-pass
-mul-pass c = search rules
+mul_pass : tie.Need-overflow-mul-pass
+mul_pass c = search rules
 
-add-pass : tie.Need-overflow-add-pass
-add-pass c = search rules
+add_pass : tie.Need-overflow-add-pass
+add_pass c = search rules
 
-pass-requires : tie.Need-pass-requires
-pass-requires c κs = search rules
+pass_requires : tie.Need-pass-requires
+pass_requires c κs = search rules
 
 returns : tie.Need-returns
 unfolding passed_at
 returns c = rw (c.pass.ensures, c.before.before.before.read-m.ensures.0)
 
-pub pass-answer-spec : {M : Type 1} → statement M
-pass-answer-spec = tie.close (tie.spec read-m-requires mul-pass add-pass pass-requires returns)
+pub pass_answer_spec : {M : Type 1} → statement M
+pass_answer_spec = tie.close (tie.spec read-m_requires mul_pass add_pass pass_requires returns)

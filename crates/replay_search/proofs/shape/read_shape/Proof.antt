@@ -4,23 +4,23 @@ use borrow.Author.Rules.{rules}
 use Rattle.replay_search.proofs.shape.read_shape.Statement.{statement}
 use Rattle.replay_search.proofs.shape.read_shape.Tie as tie
 
-read-size-requires : tie.Need-read-size-requires
-read-size-requires c κs = search rules
+read-size_requires : tie.Need-read-size-requires
+read-size_requires c κs = search rules
 
-read-size-requires-2 : tie.Need-read-size-requires-2
-read-size-requires-2 c κs = search rules
+read-size_requires_2 : tie.Need-read-size-requires-2
+read-size_requires_2 c κs = search rules
 
-read-size-requires-3 : tie.Need-read-size-requires-3
-read-size-requires-3 c κs = search rules
+read-size_requires_3 : tie.Need-read-size-requires-3
+read-size_requires_3 c κs = search rules
 
-read-size-requires-4 : tie.Need-read-size-requires-4
-read-size-requires-4 c κs = search rules
+read-size_requires_4 : tie.Need-read-size-requires-4
+read-size_requires_4 c κs = search rules
 
-read-size-requires-5 : tie.Need-read-size-requires-5
-read-size-requires-5 c κs = search rules
+read-size_requires_5 : tie.Need-read-size-requires-5
+read-size_requires_5 c κs = search rules
 
-area-requires : tie.Need-area-requires
-area-requires c κs = search rules
+area_requires : tie.Need-area-requires
+area_requires c κs = search rules
 
 add-area : tie.Need-overflow-add-area
 add-area c = search rules
@@ -35,5 +35,5 @@ returns c =
     let k = read.before.read-size4.ensures.0 in
     rw (c.area.ensures.0, read.read-size5.ensures.0, k, row, n, d)
 
-pub read-shape-spec : {M : Type 1} → statement M
-read-shape-spec = tie.close (tie.spec read-size-requires read-size-requires-2 read-size-requires-3 read-size-requires-4 read-size-requires-5 add-area area-requires returns)
+pub read_shape_spec : {M : Type 1} → statement M
+read_shape_spec = tie.close (tie.spec read-size_requires read-size_requires_2 read-size_requires_3 read-size_requires_4 read-size_requires_5 add-area area_requires returns)
