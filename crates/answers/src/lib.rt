@@ -1,4 +1,6 @@
 // What an answer says over the C boundary: its refusal's number and places, and its counts.
+#![tactic(auto)]
+
 ghost use Rattle.std.specs.Prelude.{◌≡◌};
 ghost use Rattle.rules.specs.Refusals.{code, code_of, said_of};
 ghost use Rattle.rules.specs.SearchCall.{search_said};
@@ -9,7 +11,7 @@ use rules::{Answer, IterateAnswer, Refusal, SearchAnswer};
 
 /// A refusal by its number and two places; all 0 where there is none.
 #[repr(C)]
-#[derive(Drop)]
+#[derive(Clone, Copy)]
 pub struct Said {
     pub refusal: usize,
     pub first: usize,
@@ -18,7 +20,7 @@ pub struct Said {
 
 /// What a search says: its refusal, the count of results, and the count of nodes taken from the queue.
 #[repr(C)]
-#[derive(Drop)]
+#[derive(Clone, Copy)]
 pub struct Found {
     pub refusal: usize,
     pub first: usize,
@@ -29,7 +31,7 @@ pub struct Found {
 
 /// What an iteration says: its refusal, the cost, and the total of new.
 #[repr(C)]
-#[derive(Drop)]
+#[derive(Clone, Copy)]
 pub struct Iterated {
     pub refusal: usize,
     pub first: usize,

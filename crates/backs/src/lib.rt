@@ -1,4 +1,6 @@
 // The reversed lists of an iteration: each node's number once per member it has, and a list copied to every context.
+#![tactic(auto)]
+
 ghost use Rattle.std.specs.Prelude.{◌+◌, ◌-◌, ◌*◌, ◌≤◌, ◌<◌, length};
 ghost use Rattle.backs.specs.Backs.{Lengths, FilledFrom, backs, GatheredBack, PutBack, Reversed};
 

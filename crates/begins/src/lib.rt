@@ -1,4 +1,6 @@
 // What a begin writes: unfilled lists, drawn contexts, no pair visited.
+#![tactic(auto)]
+
 ghost use Rattle.std.specs.Prelude.{◌≡◌, [], ◌∷◌, ℕ, ◌+◌, ◌*◌, ◌≤◌, ◌<◌, length};
 ghost use Rattle.rules.specs.Loops.{each};
 ghost use Rattle.rules.specs.Calls.{descent_words};

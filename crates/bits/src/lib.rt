@@ -1,4 +1,6 @@
 // A bit of a lent slice of words: read, set and cleared.
+#![tactic(auto)]
+
 ghost use Rattle.std.specs.Prelude.{◌≡◌, ◌/◌, ◌<◌, length};
 ghost use Rattle.rules.specs.DescentPlaces.{bit_at};
 ghost use Rattle.bits.specs.Bits.{set_bit, clear_bit};

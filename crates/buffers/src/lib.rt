@@ -1,4 +1,6 @@
 // Lent buffers: zeroed, copied from the front, and used as flags.
+#![tactic(auto)]
+
 ghost use Rattle.std.specs.Prelude.{◌≡◌, not, map, ℕ, ◌≤◌, ◌<◌, T, length, get_or, replicate};
 ghost use Rattle.std.specs.Float.{nan, binary32};
 ghost use Rattle.std.specs.Float.Ieee.{is_nan, to_bits};

@@ -1,4 +1,6 @@
 // The entry `build`: the refusal table, steps 1 to 6, and scratch zeroed.
+#![tactic(auto)]
+
 ghost use Rattle.std.specs.Prelude.{◌≡◌, [], ◌∷◌, ◌*◌, ◌≤◌};
 ghost use Rattle.rules.specs.Loops.{any_of};
 ghost use Rattle.rules.specs.Numbers.{outside, bad_threshold};

@@ -1,4 +1,6 @@
 // Square C of the settled squares: the graphs of width 2 and 3, every place of each row.
+#![tactic(auto)]
+
 ghost use Rattle.std.specs.Prelude.{◌≡◌};
 ghost use Rattle.case_c.specs.Square.{lanes_of_squares, params_of_squares};
 

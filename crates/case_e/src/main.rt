@@ -1,4 +1,6 @@
 // Case E of the settled squares: roots 0 and 3, k 2, query 7 on C's graph; prints each rank, its node and the bits of its distance.
+#![tactic(auto)]
+
 ghost use Rattle.std.specs.Prelude.{◌≡◌};
 ghost use Rattle.case_e.specs.Square.{lanes_of_squares, graph_of_c, roots_of_e, query_of_e};
 

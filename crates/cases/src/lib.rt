@@ -1,10 +1,12 @@
 // The reader of the oracle's lists: text as a sequence of numbers, by the format of oracle/README.md.
+#![tactic(auto)]
+
 ghost use Rattle.std.specs.Prelude.{◌≡◌, ◌≤◌, min, length, drop};
 ghost use Rattle.cases.specs.Text.{within, separates, after, skipped, digit_of, digits_of, token_at, faulted, word_at, size_at, area_of, words_at, float_of, floats_at, behind, first};
 
 /// A place in a list, the numbers read up to it with their sum modulo 2^32, and what went wrong
 /// first (`FINE` where nothing did).
-#[derive(Drop)]
+#[derive(Clone, Copy)]
 pub struct Cursor {
     pub at: usize,
     pub count: u32,
@@ -13,21 +15,21 @@ pub struct Cursor {
 }
 
 /// The value of some digits, and the place behind them.
-#[derive(Drop)]
+#[derive(Clone, Copy)]
 pub struct Digits {
     pub value: u64,
     pub at: usize,
 }
 
 /// A number of a list, and the place behind it.
-#[derive(Drop)]
+#[derive(Clone, Copy)]
 pub struct Word {
     pub value: u32,
     pub cursor: Cursor,
 }
 
 /// A length of a list, and the place behind it.
-#[derive(Drop)]
+#[derive(Clone, Copy)]
 pub struct Size {
     pub value: usize,
     pub cursor: Cursor,
@@ -35,7 +37,7 @@ pub struct Size {
 
 /// What stands next in a list: a number with the place behind it; the end; a number of 2^32 or more;
 /// or a byte that belongs to no list. The last two have their place.
-#[derive(Drop)]
+#[derive(Clone, Copy)]
 pub enum Token {
     Number(u32, Cursor),
     End(Cursor),

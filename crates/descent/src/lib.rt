@@ -1,4 +1,6 @@
 // The entry `begin` of a descent: the refusal table, what it writes, and scratch zeroed.
+#![tactic(auto)]
+
 ghost use Rattle.std.specs.Prelude.{◌≡◌, [], ◌∷◌, ◌*◌, ◌≤◌, length};
 ghost use Rattle.rules.specs.Loops.{any_of};
 ghost use Rattle.rules.specs.Numbers.{outside};

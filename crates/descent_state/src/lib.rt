@@ -1,4 +1,6 @@
 // Row 12 of an iteration: whether a descent's state is well formed, part by part.
+#![tactic(auto)]
+
 ghost use Rattle.std.specs.Prelude.{◌≡◌, not, ℕ, ◌+◌, ◌-◌, ◌*◌, ◌≤◌, ◌<◌, length, take, drop};
 ghost use Rattle.rules.specs.Loops.{part};
 ghost use Rattle.rules.specs.DescentPlaces.{bit_at, members_formed, descent_formed};

@@ -1,4 +1,6 @@
 // Step 1 of build: the distances of a node to others, and its exact list.
+#![tactic(auto)]
+
 ghost use Rattle.std.specs.Prelude.{◌≡◌, map, reverse, ◌+◌, ◌*◌, ◌≤◌, ◌<◌, leb, length, take};
 ghost use Rattle.rules.specs.Loops.{over};
 ghost use Rattle.rules.specs.Lists.{entries, place};
@@ -130,7 +132,7 @@ fn farthest(dists: &[f32], len: usize, k: usize) -> f32
 }
 
 // A list's length, and its farthest distance as `farthest` gives it.
-#[derive(Drop)]
+#[derive(Clone, Copy)]
 struct Kept {
     len: usize,
     bound: f32,

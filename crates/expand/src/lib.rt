@@ -1,4 +1,6 @@
 // A node of a search's walk expanded, over areas of lent scratch: flags, queue, best set, and the entries found in its row.
+#![tactic(auto)]
+
 ghost use Rattle.std.specs.Prelude.{[], ◌∷◌, ◌+◌, ◌≤◌, ◌<◌, length};
 ghost use Rattle.rules.specs.Distance.{query_apart};
 ghost use Rattle.rules.specs.Rows.{live_nodes};
@@ -9,7 +11,7 @@ ghost use Rattle.expand.specs.Queue.{Rows, QueueSound, Expanded};
 use rules::{Distance, Neighbor, NodeId};
 
 /// How many, or the node whose distance is unfit.
-#[derive(Drop)]
+#[derive(Clone, Copy)]
 pub enum Counted {
     Count(usize),
     Unfit(NodeId),

@@ -1,4 +1,6 @@
 // Whether lists of entries in lent slices are well formed: ascending, and each entry a node with a distance that it may have.
+#![tactic(auto)]
+
 ghost use Rattle.std.specs.Prelude.{◌≡◌, ◌*◌, ◌≤◌, length};
 ghost use Rattle.rules.specs.Lists.{entries};
 ghost use Rattle.rules.specs.Offers.{entry_formed, entries_formed, ascending, list_formed, lists_formed};

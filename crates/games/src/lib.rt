@@ -1,4 +1,6 @@
 // Reads a game: games/README.md gives the lines of its file.
+#![tactic(auto)]
+
 ghost use Rattle.std.specs.Prelude.{◌≡◌, ◌%◌, slice_index};
 ghost use Rattle.games.specs.Games.{nothing, read_to, put, wholes_put, values_put, ended, name_of, lanes_line, with_params, teach_line, names_line, roots_line, with_point, is_point, read, point_line, setting, line_read, next_line, whole_line, file_read};
 
@@ -49,7 +51,7 @@ const PLACES: usize = 68;
 
 /// A game as its file says: how much of all there is, the parameters, the place of the lanes' names; the line and the place up to which it is read, and what is
 /// wrong there.
-#[derive(Drop)]
+#[derive(Clone, Copy)]
 pub struct Game {
     pub dimension: usize,
     pub n: usize,

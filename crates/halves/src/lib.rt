@@ -1,4 +1,6 @@
 // One step of half a job, on the list that it offers to: what the job keeps, and what becomes of the list in its room.
+#![tactic(auto)]
+
 ghost use Rattle.std.specs.Prelude.{◌≡◌, not, ◌&&◌, ◌≤◌, ◌<◌, eqb, ltb, length};
 ghost use Rattle.rules.specs.Lists.{entries};
 ghost use Rattle.rules.specs.Offers.{look};
@@ -9,7 +11,7 @@ ghost use Rattle.halves.specs.Halves.{NextFlags, Roomed, NextList};
 use rules::Neighbor;
 
 /// A half's report and measure: 1 or 0.
-#[derive(Drop)]
+#[derive(Clone, Copy)]
 pub struct Flags {
     pub taken: u32,
     pub longer: u32,

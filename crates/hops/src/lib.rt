@@ -1,4 +1,6 @@
 // Step 2 of build: the two-hop candidates of a node, over the exact lists of all nodes in one slice.
+#![tactic(auto)]
+
 ghost use Rattle.std.specs.Prelude.{◌≡◌, ◌+◌, ◌≤◌, ◌<◌, length, take, replicate};
 ghost use Rattle.rules.specs.Loops.{through};
 ghost use Rattle.rules.specs.Build.{taking, hop, two_hops};

@@ -1,4 +1,6 @@
 // The entry `iterate` of a descent: the refusal table, one iteration, and scratch zeroed.
+#![tactic(auto)]
+
 ghost use Rattle.std.specs.Prelude.{◌≡◌, length};
 ghost use Rattle.rules.specs.Distance.{nodes_apart};
 ghost use Rattle.rules.specs.Refusals.{decide, decision_of};

@@ -1,11 +1,13 @@
 // The work of one iteration, once no row of the table holds: pairs meet, new and old lists, reversed lists.
+#![tactic(auto)]
+
 ghost use Rattle.std.specs.Prelude.{◌*◌, ◌≤◌, length};
 ghost use Rattle.rules.specs.Distance.{between};
 ghost use Rattle.meets.specs.Meets.{Game};
 ghost use Rattle.iterates.specs.Iterates.{Fit, MetIn, IteratedIn};
 
 /// What an iteration answers: the cost, and the total of new.
-#[derive(Drop)]
+#[derive(Clone, Copy)]
 pub struct Counts {
     pub cost: usize,
     pub new: usize,

@@ -1,4 +1,6 @@
 // The words of one job of a relay: u, v, the steps done, the report and the measure of each half, 8 spare words of 0.
+#![tactic(auto)]
+
 ghost use Rattle.std.specs.Prelude.{◌≡◌, ◌-◌, ◌≤◌, length, get_or};
 ghost use Rattle.jobs.specs.Jobs.{half_formed, distance_formed, job_test, PendingHalf, PendingJob, kept_words};
 

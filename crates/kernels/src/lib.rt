@@ -1,4 +1,6 @@
 // Eight nodes at once, their lanes side by side in a local block, or four as they lie: each still summed in lane order with one rounding per operation.
+#![tactic(auto)]
+
 ghost use Rattle.std.specs.Prelude.{◌≡◌, true, false, [], ◌∷◌, ◌+◌, ◌*◌, ◌≤◌, ◌<◌, length};
 ghost use Rattle.rules.specs.Distance.{lane, fit, answer, carried, nodes_apart, between};
 ghost use Rattle.rules.specs.Refusals.{decide, decision_of, row10};
@@ -156,7 +158,7 @@ pub fn first_unfit(lanes: &[f32], dimension: usize, n: usize) -> Answer
 }
 
 /// Four numbers, one for each of four nodes.
-#[derive(Drop)]
+#[derive(Clone, Copy)]
 pub struct Four {
     pub a: f32,
     pub b: f32,

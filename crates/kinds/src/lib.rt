@@ -1,4 +1,6 @@
 // Passes one case of each kind, and its parts, by the format of oracle/README.md.
+#![tactic(auto)]
+
 ghost use Rattle.std.specs.Prelude.{◌≡◌};
 ghost use Rattle.kinds.specs.Kinds.{behind_runs, behind_state, behind_iterations, behind_moves, behind_build, behind_search, behind_descent, behind_alone, behind_relay, behind_links, behind_case};
 

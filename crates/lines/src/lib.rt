@@ -1,4 +1,6 @@
 // The text of a game: its lines, their words, and the decimals among them.
+#![tactic(auto)]
+
 ghost use Rattle.std.specs.Prelude.{◌≡◌, pos};
 ghost use Rattle.std.specs.Float.{binary32};
 ghost use Rattle.std.specs.Float.Ieee.{of_int};
@@ -35,7 +37,7 @@ const NAN: u64 = 0x016E_616E;
 
 /// A word of a line: its first byte and the place behind it, which are the same where the line has no more words; a 1 and its bytes as one number, where there
 /// are at most seven; and its shape and digits as a decimal.
-#[derive(Drop)]
+#[derive(Clone, Copy)]
 pub struct Word {
     pub start: usize,
     pub end: usize,

@@ -1,4 +1,6 @@
 // Step 5 of build, the reverse links: the n times `index_size` slots are a flat list of entries in two slices.
+#![tactic(auto)]
+
 ghost use Rattle.std.specs.Prelude.{◌≡◌, ◌*◌, ◌≤◌, ◌<◌, length, get_or};
 ghost use Rattle.rules.specs.Loops.{has, part};
 ghost use Rattle.rules.specs.Lists.{entries, nodes_of};

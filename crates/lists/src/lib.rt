@@ -1,4 +1,6 @@
 // Ascending lists of entries, each in the front of two lent slices: node numbers in one, distances in the other.
+#![tactic(auto)]
+
 ghost use Rattle.std.specs.Prelude.{◌≡◌, ◌≤◌, ◌<◌, length};
 ghost use Rattle.lists.specs.Lists.{hole, PlaceFound, PushedCut, Pushed, Popped, SortedIn};
 

@@ -1,9 +1,11 @@
 // Reads each list that an argument names to its end, and prints its cases of each kind, its numbers with their sum, its fault, and that it is closed.
+#![tactic(auto)]
+
 use cases::Cursor;
 use libc::STDOUT_FILENO;
 
 // The cases passed, those of each kind, and the place in the list.
-#[derive(Drop)]
+#[derive(Clone, Copy)]
 struct Tally {
     passed: u32,
     kinds: [u32; 7],

@@ -1,4 +1,6 @@
 // One pair of an iteration meets: an update of both lists, and marks both ways, in a descent's state.
+#![tactic(auto)]
+
 ghost use Rattle.std.specs.Prelude.{◌*◌, ◌≤◌, ◌<◌, length};
 ghost use Rattle.rules.specs.Distance.{between};
 ghost use Rattle.rules.specs.Descent.{pair, meet};

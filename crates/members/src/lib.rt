@@ -1,4 +1,6 @@
 // A context list written to its 65 words: the length, the members, zeros.
+#![tactic(auto)]
+
 ghost use Rattle.std.specs.Prelude.{◌≡◌, ◌≤◌, length};
 ghost use Rattle.rules.specs.DescentPlaces.{member_words};
 

@@ -1,4 +1,6 @@
 // Distances: the lanes of a node, the distance answer of two, and the first pair that is unfit.
+#![tactic(auto)]
+
 ghost use Rattle.std.specs.Prelude.{◌≡◌, [], ◌∷◌, ◌+◌, ◌*◌, ◌≤◌, ◌<◌, length, eqb};
 ghost use Rattle.rules.specs.Distance.{nodes_apart, query_apart, unfit, carried, between};
 ghost use Rattle.rules.specs.Refusals.{decide, decision_of, row10, unfit_after};

@@ -1,4 +1,6 @@
 // Names counters: reads the games that its arguments name, teaches each, looks its queries up, and prints a table for a person and tables for a program.
+#![tactic(auto)]
+
 ghost use Rattle.std.specs.Prelude.{◌≡◌};
 ghost use Rattle.name_counters.specs.Messages.{line_start};
 

@@ -1,4 +1,6 @@
 // The order of entries.
+#![tactic(auto)]
+
 ghost use Rattle.std.specs.Prelude.{◌≡◌};
 ghost use Rattle.rules.specs.Distance.{before};
 

@@ -1,4 +1,6 @@
 // Step 5 of build, an offer at a row of slots: the row is in two slices, and a pool has a place for it and the offer.
+#![tactic(auto)]
+
 ghost use Rattle.std.specs.Prelude.{◌≡◌, [], ◌∷◌, ◌++◌, ◌+◌, ◌*◌, ◌<◌, length};
 ghost use Rattle.rules.specs.Lists.{entries, sort};
 ghost use Rattle.rules.specs.Distance.{between};

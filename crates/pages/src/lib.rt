@@ -1,4 +1,6 @@
 // A lent page that a program fills before it prints it: what it says can then be stated.
+#![tactic(auto)]
+
 ghost use Rattle.std.specs.Prelude.{◌≡◌, take};
 ghost use Rattle.pages.specs.Page.{labelled, Puts};
 

@@ -1,4 +1,6 @@
 // Row 10 of build, begin and iteration: no pair is measured where every lane is so small that no distance can be unfit.
+#![tactic(auto)]
+
 ghost use Rattle.std.specs.Prelude.{◌≡◌, [], ◌∷◌, ◌*◌, ◌≤◌, length};
 ghost use Rattle.rules.specs.Distance.{nodes_apart};
 ghost use Rattle.rules.specs.Refusals.{decide, decision_of, row10};

@@ -1,9 +1,11 @@
 // The parameters of a build (hora's `ssg_params.rs`): the defaults, and a setter for each.
+#![tactic(auto)]
+
 ghost use Rattle.std.specs.Prelude.{◌≡◌};
 ghost use Rattle.params.specs.Params.{defaults, with_threshold, with_init_k, with_index_size, with_neighbor_neighbor_size};
 
 /// The parameters of a build (hora's `SSGParams`): the threshold stands for the angle, and the roots are given.
-#[derive(Drop)]
+#[derive(Clone, Copy)]
 pub struct SsgParams {
     pub threshold: f32,
     pub init_k: usize,

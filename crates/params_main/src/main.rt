@@ -1,4 +1,6 @@
 // The setters chained, as with `SSGParams` in hora: each parameter set to another than its default.
+#![tactic(auto)]
+
 use params::SsgParams;
 
 fn main() {

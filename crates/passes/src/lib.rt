@@ -1,4 +1,6 @@
 // The seven passes of an iteration over each node's context.
+#![tactic(auto)]
+
 ghost use Rattle.std.specs.Prelude.{◌≡◌, ◌*◌, ◌≤◌, ◌<◌, length, drop};
 ghost use Rattle.rules.specs.Loops.{through};
 ghost use Rattle.rules.specs.Distance.{between};

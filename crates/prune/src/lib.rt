@@ -1,4 +1,6 @@
 // Step 3 of build: which entries stand in the way of which, and the choice of those that are kept.
+#![tactic(auto)]
+
 ghost use Rattle.std.specs.Prelude.{◌≡◌, ℕ, ◌+◌, ◌*◌, ◌≤◌, ◌<◌, length, get_or};
 ghost use Rattle.std.specs.Float.Ieee.{lt};
 ghost use Rattle.std.specs.Float.{nan};

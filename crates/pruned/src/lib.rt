@@ -1,4 +1,6 @@
 // Steps 2 to 4 of build: the candidates of each node, pruned, in its row of slots.
+#![tactic(auto)]
+
 ghost use Rattle.std.specs.Prelude.{◌≡◌, ◌*◌, ◌≤◌, ◌<◌, length};
 ghost use Rattle.rules.specs.Distance.{between};
 ghost use Rattle.pruned.specs.Pruned.{sizes, Given, Room, PrunedRow, PrunedAll};

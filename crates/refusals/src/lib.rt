@@ -1,4 +1,6 @@
 // The common ground of the refusal tests: a case's numbers and runs, junk in lent places, what became of it after a call, and the parts of a line.
+#![tactic(auto)]
+
 ghost use Rattle.std.specs.Prelude.{◌≡◌, ◌≤◌, length, take};
 ghost use Rattle.cases.specs.Text.{words_at, behind};
 ghost use Rattle.pages.specs.Page.{labelled, Puts};
@@ -15,7 +17,7 @@ const WORDS: u32 = 0xEF00_0000;
 const FLOATS: f32 = 1.5;
 
 /// What became of lent places: they stand as they were, they are all zero, or neither.
-#[derive(Drop)]
+#[derive(Clone, Copy)]
 pub enum Left {
     Untouched,
     Zeroed,

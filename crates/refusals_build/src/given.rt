@@ -6,7 +6,7 @@ use cases::Cursor;
 use params::SsgParams;
 
 /// The numbers of a call, and how long each slice is that it lends.
-#[derive(Drop)]
+#[derive(Clone, Copy)]
 pub struct Call {
     pub params: SsgParams,
     pub dimension: usize,
@@ -18,7 +18,7 @@ pub struct Call {
 }
 
 /// A case of the list, and the place of its lanes.
-#[derive(Drop)]
+#[derive(Clone, Copy)]
 pub struct Read {
     pub call: Call,
     pub cursor: Cursor,

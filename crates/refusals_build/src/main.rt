@@ -1,4 +1,6 @@
 // Square C and every row of the table that `build` can give, at its edges and beside others; each case of stdin says what became of lent junk.
+#![tactic(auto)]
+
 ghost use Rattle.std.specs.Prelude.{◌≡◌};
 ghost use Rattle.pages.specs.Page.{Puts};
 ghost use Rattle.refusals_build.specs.Given.{behind_case};

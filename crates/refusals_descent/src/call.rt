@@ -22,7 +22,7 @@ const FLOATS: f32 = 2.5;
 const EMPTY: f32 = 340282346638528859811704183484516925440.0;
 
 /// Which entry is called, whether the state that it leaves is printed, the numbers, and how long each slice is that it lends.
-#[derive(Drop)]
+#[derive(Clone, Copy)]
 pub struct Call {
     pub begins: bool,
     pub shown: bool,

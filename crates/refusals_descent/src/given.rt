@@ -7,7 +7,7 @@ use crate::call::Call;
 use cases::Cursor;
 
 /// A call of the list, and the place of its lanes.
-#[derive(Drop)]
+#[derive(Clone, Copy)]
 pub struct Read {
     pub call: Call,
     pub cursor: Cursor,

@@ -1,4 +1,6 @@
 // Every row of the table that `begin` and `iterate` can give, its edges, several rows at once, and states harmed in a place.
+#![tactic(auto)]
+
 use call::Call;
 use cases::Cursor;
 use libc::STDOUT_FILENO;

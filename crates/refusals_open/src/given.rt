@@ -5,7 +5,7 @@ ghost use Rattle.refusals_open.specs.Given.{call_of, entry_of, case_at};
 use cases::Cursor;
 
 /// The numbers of a call, and how long the lists, the state and scratch are that it lends.
-#[derive(Drop)]
+#[derive(Clone, Copy)]
 pub struct Call {
     pub dimension: usize,
     pub n: usize,
@@ -19,7 +19,7 @@ pub struct Call {
 }
 
 /// An entry that is put into the lists before the call; a place behind their end changes nothing.
-#[derive(Drop)]
+#[derive(Clone, Copy)]
 pub struct Entry {
     pub at: usize,
     pub node: u32,
@@ -27,7 +27,7 @@ pub struct Entry {
 }
 
 /// A case of the list, and the place of its lanes.
-#[derive(Drop)]
+#[derive(Clone, Copy)]
 pub struct Read {
     pub call: Call,
     pub first: Entry,

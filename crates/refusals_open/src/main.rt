@@ -1,4 +1,6 @@
 // Every row of the table of a relay's `open`, at its edges and beside the rows after it; stdin says what its numbers are.
+#![tactic(auto)]
+
 ghost use Rattle.std.specs.Prelude.{◌≡◌};
 ghost use Rattle.pages.specs.Page.{Puts};
 ghost use Rattle.refusals_open.specs.Given.{behind_case};

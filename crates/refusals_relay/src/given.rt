@@ -5,7 +5,7 @@ ghost use Rattle.refusals_relay.specs.Given.{lent_of, state_of, case_at};
 use cases::Cursor;
 
 /// The numbers of a call, and how long each slice is that it lends.
-#[derive(Drop)]
+#[derive(Clone, Copy)]
 pub struct Lent {
     pub n: usize,
     pub k: usize,
@@ -19,7 +19,7 @@ pub struct Lent {
 
 /// How many steps job 0 and each other job has done, and then two words and a float that are put at places of the state; a place behind
 /// the end changes nothing.
-#[derive(Drop)]
+#[derive(Clone, Copy)]
 pub struct State {
     pub first: usize,
     pub rest: usize,
@@ -32,7 +32,7 @@ pub struct State {
 }
 
 /// A case of the list, and the place behind it.
-#[derive(Drop)]
+#[derive(Clone, Copy)]
 pub struct Read {
     pub lent: Lent,
     pub state: State,

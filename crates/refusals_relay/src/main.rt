@@ -1,4 +1,6 @@
 // Every row of the tables of a relay's move and close, and every clause of a well-formed relay state; stdin says what its numbers are.
+#![tactic(auto)]
+
 ghost use Rattle.std.specs.Prelude.{◌≡◌};
 ghost use Rattle.cases.specs.Text.{behind};
 ghost use Rattle.pages.specs.Page.{Puts};

@@ -5,7 +5,7 @@ ghost use Rattle.refusals_search.specs.Given.{call_of, case_at};
 use cases::Cursor;
 
 /// The numbers of a call, and how long the result slices and scratch are that it lends.
-#[derive(Drop)]
+#[derive(Clone, Copy)]
 pub struct Call {
     pub dimension: usize,
     pub n: usize,
@@ -18,7 +18,7 @@ pub struct Call {
 }
 
 /// A case of the list, and the place of its lanes.
-#[derive(Drop)]
+#[derive(Clone, Copy)]
 pub struct Read {
     pub call: Call,
     pub cursor: Cursor,

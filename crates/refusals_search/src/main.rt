@@ -1,4 +1,6 @@
 // Squares D to G and J and every row of the table that `search` can give, at its edges and beside others; each case of stdin says what became of lent junk.
+#![tactic(auto)]
+
 ghost use Rattle.std.specs.Prelude.{◌≡◌};
 ghost use Rattle.pages.specs.Page.{Puts};
 ghost use Rattle.refusals_search.specs.Given.{behind_case};

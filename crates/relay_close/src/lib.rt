@@ -1,4 +1,6 @@
 // The entry `close`: the refusal table, the lists and the reports.
+#![tactic(auto)]
+
 ghost use Rattle.std.specs.Prelude.{◌≡◌, true, [], ◌∷◌, ◌+◌, ◌*◌, ◌≤◌, length};
 ghost use Rattle.rules.specs.Loops.{any_of, first_from, over};
 ghost use Rattle.rules.specs.Refusals.{decide, decision_of, holds, not_exactly};

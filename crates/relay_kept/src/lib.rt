@@ -1,1 +1,2 @@
 // Laws of well-formed relays, in proofs/. This crate has no code.
+#![tactic(auto)]

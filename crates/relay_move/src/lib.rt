@@ -1,4 +1,6 @@
 // The entry `move_job`: the refusal table, and one step of a job in the relay's state.
+#![tactic(auto)]
+
 ghost use Rattle.std.specs.Prelude.{◌≡◌, true, false, [], ◌∷◌, ◌+◌, ◌*◌, ◌≤◌, ◌<◌, eqb, length, get_or};
 ghost use Rattle.rules.specs.Loops.{any_of};
 ghost use Rattle.rules.specs.Refusals.{decide, decision_of, holds, not_exactly};

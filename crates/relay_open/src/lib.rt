@@ -1,4 +1,6 @@
 // The entry `open`: the refusal table, and the state of a relay whose jobs have no step done.
+#![tactic(auto)]
+
 ghost use Rattle.std.specs.Prelude.{◌≡◌, cond, ◌+◌, ◌*◌, ◌≤◌, ◌<◌, eqb, length, take, replicate};
 ghost use Rattle.rules.specs.Loops.{each, part};
 ghost use Rattle.rules.specs.Distance.{zero32, between};

@@ -1,4 +1,6 @@
 // The entry `open` of a relay: the refusal table, the state written, and scratch zeroed.
+#![tactic(auto)]
+
 ghost use Rattle.std.specs.Prelude.{◌≡◌, [], ◌∷◌, ◌*◌, ◌≤◌, length};
 ghost use Rattle.rules.specs.Loops.{any_of};
 ghost use Rattle.rules.specs.Distance.{nodes_apart};

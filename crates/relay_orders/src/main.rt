@@ -1,4 +1,6 @@
 // Square I in three orders of its moves, and 44 orders of each of nine sets of jobs: every order of one set must end in the same lists.
+#![tactic(auto)]
+
 use libc::STDOUT_FILENO;
 use sets::Game;
 use tally::{EMPTY, Lists, Outcome, Tally};

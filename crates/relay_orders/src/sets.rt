@@ -3,7 +3,7 @@ ghost use Rattle.std.specs.Prelude.{◌≡◌};
 ghost use Rattle.relay_orders.specs.Sets.{lanes_of_square, jobs_of_square, drawn_game};
 
 /// A game that is drawn: its nodes, the length of its lists, and the seeds of its lanes, of its first jobs and of the further ones.
-#[derive(Drop)]
+#[derive(Clone, Copy)]
 pub struct Game {
     pub n: u32,
     pub k: usize,

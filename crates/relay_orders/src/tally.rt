@@ -7,21 +7,21 @@ ghost use Rattle.relay_orders.specs.Tally.{unfilled_lists, no_order, apart_by, w
 pub const EMPTY: f32 = 340282346638528859811704183484516925440.0;
 
 /// Lists of a relay, in the front.
-#[derive(Drop)]
+#[derive(Clone, Copy)]
 pub struct Lists {
     pub nodes: [u32; 24],
     pub dists: [f32; 24],
 }
 
 /// The lists after a close, and how many calls were refused on the way.
-#[derive(Drop)]
+#[derive(Clone, Copy)]
 pub struct Outcome {
     pub lists: Lists,
     pub refused: u32,
 }
 
 /// The sets and orders run, the orders whose lists differ from those of their set's first, and the calls refused.
-#[derive(Drop)]
+#[derive(Clone, Copy)]
 pub struct Tally {
     pub sets: u32,
     pub orders: u32,

@@ -1,4 +1,6 @@
 // Rows 9 and 10 of open's table: its jobs.
+#![tactic(auto)]
+
 ghost use Rattle.std.specs.Prelude.{◌≡◌, not, ◌&&◌, [], ◌∷◌, ◌*◌, ◌<◌, eqb, length};
 ghost use Rattle.rules.specs.Distance.{unfit, nodes_apart};
 ghost use Rattle.rules.specs.Refusals.{decide, decision_of, row9, row10_of_jobs, first_bad_job};

@@ -1,4 +1,6 @@
 // Whether a relay's state is well formed: its jobs, and the room of each list.
+#![tactic(auto)]
+
 ghost use Rattle.std.specs.Prelude.{◌≡◌, ◌+◌, ◌*◌, ◌≤◌, length, drop, get_or};
 ghost use Rattle.rules.specs.Distance.{zero32};
 ghost use Rattle.rules.specs.RelayPlaces.{relay_formed};

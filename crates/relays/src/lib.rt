@@ -1,4 +1,6 @@
 // The common ground of the programs over a relay: places inside a state, and floats by their bits.
+#![tactic(auto)]
+
 ghost use Rattle.std.specs.Prelude.{◌≡◌, length, slice_set};
 ghost use Rattle.cases.specs.Text.{words_at, behind};
 ghost use Rattle.relays.specs.Places.{sum, list_at, length_at, job_at, words_long, floats_long};

@@ -1,4 +1,6 @@
 // What an iteration does when all pairs have met: new and old lists, their pairs unvisited, reversed lists.
+#![tactic(auto)]
+
 ghost use Rattle.std.specs.Prelude.{◌*◌, ◌≤◌, length};
 ghost use Rattle.renews.specs.Renews.{Lists};
 ghost use Rattle.renewals.specs.Renewals.{Held, ListsRenewed, StateRenewed};

@@ -1,4 +1,6 @@
 // An iteration's new and old lists: the filled entries of a list by their visited pairs, shuffled and cut, written to contexts.
+#![tactic(auto)]
+
 ghost use Rattle.std.specs.Prelude.{◌≡◌, Bool, List, ◌+◌, ◌*◌, ◌/◌, ◌≤◌, ◌<◌, length};
 ghost use Rattle.visits.specs.Marks.{Holds};
 ghost use Rattle.renews.specs.Renews.{Lists, counted, Gathered, NewPut, OldPut, Renews};
@@ -6,7 +8,7 @@ ghost use Rattle.renews.specs.Renews.{Lists, counted, Gathered, NewPut, OldPut, 
 use rules::NodeId;
 
 /// Draws used so far, and the total of new.
-#[derive(Drop)]
+#[derive(Clone, Copy)]
 pub struct Drawn {
     pub total: usize,
     pub at: usize,

@@ -1,4 +1,6 @@
 // Replays the oracle's builds on lent places full of junk, and compares the graph of each with the Rust's.
+#![tactic(auto)]
+
 use cases::Cursor;
 use libc::STDOUT_FILENO;
 use rules::Answer;

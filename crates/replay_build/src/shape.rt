@@ -6,7 +6,7 @@ use cases::Cursor;
 use params::SsgParams;
 
 /// The numbers of a case, and the place of its lanes in the list.
-#[derive(Drop)]
+#[derive(Clone, Copy)]
 pub struct Shape {
     pub dimension: usize,
     pub n: usize,

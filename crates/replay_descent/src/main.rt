@@ -1,4 +1,6 @@
 // Replays the oracle's descents on lent places full of junk, and compares what every call answers and leaves with what the Rust did.
+#![tactic(auto)]
+
 use cases::Cursor;
 use libc::STDOUT_FILENO;
 use rules::{Answer, IterateAnswer};
@@ -14,7 +16,7 @@ const DESCENT: u32 = 3;
 const ITERATION: u32 = 4;
 
 // How an iteration came out, and the place behind its draws.
-#[derive(Drop)]
+#[derive(Clone, Copy)]
 struct Turned {
     outcome: Outcome,
     draws: Cursor,

@@ -6,7 +6,7 @@ ghost use Rattle.replay_descent.specs.Shape.{shape_at, words_long};
 use cases::{Cursor, Size};
 
 /// The numbers of a case, and the place of its lanes in the list.
-#[derive(Drop)]
+#[derive(Clone, Copy)]
 pub struct Shape {
     pub dimension: usize,
     pub n: usize,

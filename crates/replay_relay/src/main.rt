@@ -1,4 +1,6 @@
 // Replays the oracle's relays on lent places full of junk, and compares the list that each move leaves, the lists at the end and the reports.
+#![tactic(auto)]
+
 use cases::Cursor;
 use libc::STDOUT_FILENO;
 use rules::Answer;

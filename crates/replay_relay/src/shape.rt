@@ -6,7 +6,7 @@ ghost use Rattle.replay_relay.specs.Shape.{shape_at};
 use cases::{Cursor, Size};
 
 /// The numbers of a case, and the place of its lanes in the list.
-#[derive(Drop)]
+#[derive(Clone, Copy)]
 pub struct Shape {
     pub dimension: usize,
     pub n: usize,

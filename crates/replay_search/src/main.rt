@@ -1,4 +1,6 @@
 // Replays the oracle's searches on lent places full of junk, and compares what each answers and leaves with what the Rust answered.
+#![tactic(auto)]
+
 use cases::Cursor;
 use libc::STDOUT_FILENO;
 use rules::SearchAnswer;

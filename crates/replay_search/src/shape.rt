@@ -6,7 +6,7 @@ ghost use Rattle.replay_search.specs.Shape.{shape_at};
 use cases::{Cursor, Size};
 
 /// The numbers of a case, how many floats its lanes and query are, and the place of its roots in the list.
-#[derive(Drop)]
+#[derive(Clone, Copy)]
 pub struct Shape {
     pub dimension: usize,
     pub n: usize,

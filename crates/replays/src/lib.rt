@@ -1,4 +1,6 @@
 // The common ground of the replays: the next case of a list, our numbers beside a list's, and lent buffers looked at after a call.
+#![tactic(auto)]
+
 ghost use Rattle.std.specs.Prelude.{◌≡◌, length, drop};
 ghost use Rattle.cases.specs.Text.{words_at, behind};
 ghost use Rattle.replays.specs.Compare.{apart, holds_only, is_zero, all_zero};
@@ -8,14 +10,14 @@ use cases::{Cursor, Token};
 
 /// The next case of a list: its kind, 1 to 6, and 0 where the list ends or something went wrong,
 /// which the cursor says.
-#[derive(Drop)]
+#[derive(Clone, Copy)]
 pub struct Case {
     pub kind: u32,
     pub cursor: Cursor,
 }
 
 /// The first place where our numbers differ from a list's, or their length, and the place behind.
-#[derive(Drop)]
+#[derive(Clone, Copy)]
 pub struct Compared {
     pub at: usize,
     pub cursor: Cursor,

@@ -1,4 +1,6 @@
 // Rows of slots in two slices, nodes and distances: their live part, the row writer of step 4 and the rows of step 6.
+#![tactic(auto)]
+
 ghost use Rattle.std.specs.Prelude.{◌≡◌, ◌*◌, ◌≤◌, length};
 ghost use Rattle.rules.specs.Lists.{entries};
 ghost use Rattle.rules.specs.Rows.{empty_distance, finished};

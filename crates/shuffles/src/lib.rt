@@ -1,4 +1,6 @@
 // Shuffles of an iteration: a whole slice shuffled by draws, and what is kept of a list that is too long.
+#![tactic(auto)]
+
 ghost use Rattle.std.specs.Prelude.{◌≡◌, ◌+◌, ◌-◌, ◌≤◌, ◌<◌, length};
 ghost use Rattle.rules.specs.Descent.{drawn, shuffle, drawn_after};
 ghost use Rattle.shuffles.specs.Kept.{KeptNew, KeptBack};

@@ -1,4 +1,6 @@
 // The entries over the C boundary: each is thin over the proved entry and has its equation as its contract.
+#![tactic(auto)]
+
 ghost use Rattle.params.specs.Params.{params};
 ghost use Rattle.build.specs.Build.{lent as buildLent};
 ghost use Rattle.search.specs.Search.{lent as searchLent};

@@ -1,4 +1,6 @@
 // A list's descent state, read into the places of ours.
+#![tactic(auto)]
+
 ghost use Rattle.std.specs.Prelude.{◌≡◌, ◌++◌, ◌+◌, ◌≤◌, eqb, length, take, drop};
 ghost use Rattle.cases.specs.Text.{words_at, behind};
 ghost use Rattle.states.specs.Read.{filled, state, blocks_at, lists_at, state_at};

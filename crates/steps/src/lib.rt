@@ -1,4 +1,6 @@
 // The steps of an offer to an ascending list in the front of two lent slices: one look at the last, and the four with none in between.
+#![tactic(auto)]
+
 ghost use Rattle.std.specs.Prelude.{◌≡◌, ◌≤◌, length};
 ghost use Rattle.rules.specs.Lists.{entries};
 ghost use Rattle.rules.specs.Offers.{look};

@@ -1,4 +1,6 @@
 // Rows of the refusal table that several entries test, and the fewer of two counts.
+#![tactic(auto)]
+
 ghost use Rattle.std.specs.Prelude.{◌≡◌, [], ◌∷◌, ◌≤◌, ◌+◌, min, length, take};
 ghost use Rattle.rules.specs.Loops.{has};
 ghost use Rattle.rules.specs.Numbers.{outside};

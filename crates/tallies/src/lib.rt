@@ -1,4 +1,6 @@
 // What tests over files read, count and say: a list, how a case came out, and how many did.
+#![tactic(auto)]
+
 ghost use Rattle.std.specs.Prelude.{◌≡◌};
 ghost use Rattle.io.specs.Counts.{IsPrefixLen};
 ghost use Rattle.pages.specs.Page.{Puts};
@@ -30,14 +32,14 @@ pub const WORDS: u32 = 8;
 pub const JUNK: u32 = 0xCDCD_CDCD;
 
 /// What differs first in a case, and the place behind it.
-#[derive(Drop)]
+#[derive(Clone, Copy)]
 pub struct Outcome {
     pub differs: u32,
     pub cursor: Cursor,
 }
 
 /// The cases compared, those that differ, and the place in the list.
-#[derive(Drop)]
+#[derive(Clone, Copy)]
 pub struct Tally {
     pub compared: u32,
     pub differ: u32,

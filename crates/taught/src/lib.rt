@@ -1,4 +1,6 @@
 // Step 1 of build for every node: the exact lists one behind the other in one slice.
+#![tactic(auto)]
+
 ghost use Rattle.std.specs.Prelude.{◌≡◌, ◌+◌, ◌*◌, ◌≤◌, ◌<◌, min, length};
 ghost use Rattle.rules.specs.Distance.{between};
 ghost use Rattle.taught.specs.Taught.{Taught, eight_in, HoldsEight, Ranged};

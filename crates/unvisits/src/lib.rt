@@ -1,4 +1,6 @@
 // The pairs of kept new members, unvisited.
+#![tactic(auto)]
+
 ghost use Rattle.std.specs.Prelude.{◌≡◌, ◌+◌, ◌*◌, ◌≤◌, ◌<◌, length};
 ghost use Rattle.rules.specs.Loops.{through};
 ghost use Rattle.rules.specs.Descent.{unvisit};

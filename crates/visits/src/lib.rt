@@ -1,4 +1,6 @@
 // Visited pairs: a bit for each pair of nodes, in the words of a lent slice from a place on.
+#![tactic(auto)]
+
 ghost use Rattle.std.specs.Prelude.{◌≡◌, Bool, List, ◌+◌, ◌≤◌, ◌<◌, length};
 ghost use Rattle.rules.specs.Descent.{is_visited, visit, unvisit};
 ghost use Rattle.visits.specs.Marks.{marks, Holds, Marked, PairAt};

@@ -1,4 +1,6 @@
 // The walk of a search: its start from the roots, and the nodes of its queue expanded until none is left.
+#![tactic(auto)]
+
 ghost use Rattle.std.specs.Prelude.{◌≡◌, ℕ, ◌+◌, ◌≤◌, ◌<◌, min, length, get_or};
 ghost use Rattle.rules.specs.Loops.{through};
 ghost use Rattle.rules.specs.Distance.{query_apart};
