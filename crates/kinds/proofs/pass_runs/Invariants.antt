@@ -1,0 +1,10 @@
+-- `kinds::pass_runs` meets its contract: what is left leads to the same place. Assumes nothing.
+use mathlib.Core.Path.{◌≡◌}
+use Rattle.kinds.specs.Kinds.{behind_runs}
+use Rattle.kinds.proofs.pass_runs.Given as goal
+
+abbrev pub invariant-loop-left : goal.invariant-loop-left
+invariant-loop-left l = behind_runs l.text l.left l.cursor ≡ behind_runs l.text l.initial.left l.initial.cursor
+
+abbrev pub decreases-loop-left : goal.decreases-loop-left
+decreases-loop-left l = l.left

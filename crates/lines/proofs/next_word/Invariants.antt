@@ -1,0 +1,10 @@
+-- `lines::next_word` meets its contract: what is left says what the whole says. Assumes nothing.
+use Rattle.std.proofs.Common.{◌≡◌, ◌-◌, length, drop}
+use Rattle.lines.specs.Words.{word_of, word_at}
+use Rattle.lines.proofs.next_word.Given as goal
+
+abbrev pub invariant-loop-end : goal.invariant-loop-end
+invariant-loop-end l = word_of (record { l.start = l.start; l.end = l.end; l.spelt = l.spelt; l.shape = l.shape; l.digits = l.digits }) (drop l.end l.text) ≡ word_at l.text l.from
+
+abbrev pub decreases-loop-end : goal.decreases-loop-end
+decreases-loop-end l = length l.text - l.end

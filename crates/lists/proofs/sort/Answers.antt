@@ -1,0 +1,24 @@
+-- What the search leaves of `lists::sort`.
+use Prim.Native.Nat.{◌-◌}
+use borrow.Author.Rules.{rules}
+use Rattle.lists.proofs.Slices.{sorting_none, sorting_turn, sorting_end}
+use Rattle.lists.proofs.sort.Goals as goal
+
+pub loop-done-init : goal.loop-done-init
+loop-done-init c = sorting_none
+
+pub loop-done-preserved : goal.loop-done-preserved
+loop-done-preserved c =
+    let pre = c.requires in
+    sorting_turn c.loop-done.invariant pre.0 pre.1 _ _ (search rules) c.push-done.ensures
+
+pub shape_of-nodes : goal.shape_of-nodes
+shape_of-nodes c = c.loop-done.invariant.nodes_long
+
+pub shape_of-dists : goal.shape_of-dists
+shape_of-dists c = c.loop-done.invariant.dists_long
+
+pub returns : goal.returns
+returns c =
+    let pre = c.requires in
+    sorting_end c.loop-done.invariant pre.0 pre.1 (search rules)

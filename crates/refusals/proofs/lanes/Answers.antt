@@ -1,0 +1,22 @@
+-- What the search leaves of `refusals::lanes`.
+use Rattle.std.proofs.Common.{◌-◌, arith, length-set, rules}
+use Rattle.refusals.specs.Given.{lanes_at}
+use Rattle.cases.proofs.Laws.{filling_none, filling_turn, filling_end}
+use Rattle.refusals.proofs.Laws.{lanes_turn, lanes_none}
+use Rattle.refusals.proofs.lanes.Goals as goal
+
+pub loop-i-init : goal.loop-i-init
+loop-i-init c = filling_none lanes_at _ _ _
+
+pub loop-i-smaller : goal.loop-i-smaller
+loop-i-smaller c = simp length-set (omega arith)
+
+pub loop-i-preserved : goal.loop-i-preserved
+loop-i-preserved c =
+    filling_turn lanes_at _ _ _ _ _ _ c.loop-i.invariant c.read_word-w.result c.read_word-w.ensures c.float_of.result (rw c.float_of.ensures (lanes_turn _ _ _ _ _ c.read_word-w.ensures (search rules))) (search rules)
+
+pub shape_of-out : goal.shape_of-out
+shape_of-out c = c.loop-i.invariant.long
+
+pub returns : goal.returns
+returns c = let both = filling_end lanes_at _ _ _ _ _ _ c.loop-i.invariant (lanes_none _ _) (search rules) in record { out_after = both.0; value = both.1 }

@@ -1,0 +1,11 @@
+-- `refusals::lanes` meets its contract. Assumes nothing.
+use Rattle.std.proofs.Common.{◌-◌, length}
+use Rattle.refusals.specs.Given.{lanes_at}
+use Rattle.cases.proofs.Laws.{Filling}
+use Rattle.refusals.proofs.lanes.Given as goal
+
+abbrev pub invariant-loop-i : goal.invariant-loop-i
+invariant-loop-i l = Filling lanes_at l.text l.initial.out l.initial.cursor l.out l.i l.cursor
+
+abbrev pub decreases-loop-i : goal.decreases-loop-i
+decreases-loop-i l = length l.out - l.i

@@ -1,0 +1,15 @@
+-- `refusals::read_lanes` meets its contract: the part is as long as the run. Assumes nothing.
+use Rattle.std.proofs.Common.{arith, length-take, rules}
+use Rattle.refusals.specs.Given.{lanes_at}
+use Rattle.refusals.proofs.Laws.{run_made}
+use Rattle.refusals.proofs.read_lanes.Goals as goal
+
+pub slice_bounds-lanes-end-2 : goal.slice_bounds-lanes-end-2
+slice_bounds-lanes-end-2 c = simp length-take (omega arith)
+
+pub returns : goal.returns
+returns c =
+    let s = c.read_size-count in
+    let r = c.lanes-cursor in
+    let made = run_made lanes_at _ _ _ s.result s.ensures.value s.ensures.value_le_most _ r.result r.ensures.out_after r.ensures.value in
+    let both = (search rules, made) in record { value_in_bounds = both.0; value = both.1.0; out_after = both.1.1 }

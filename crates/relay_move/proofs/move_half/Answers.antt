@@ -1,0 +1,21 @@
+-- `relay_move::move_half` meets its contract: the look and the measure, the list, and what the job keeps. Assumes nothing.
+use mathlib.Core.Path.{◌≡◌}
+use Prim.Native.Nat.{◌+◌, ◌-◌}
+use native.Mathlib.Omega.{arith}
+use Rattle.relay_move.specs.Moves.{job_place}
+use Rattle.relay_move.proofs.Parts.{keep-ready, half_moved}
+use Rattle.relay_move.proofs.move_half.Goals as goal
+
+pub keep-requires : goal.keep-requires
+keep-requires c =
+    let a = c.args in
+    let at = job_place a.n a.k a.job in
+    let m : at + 15 - at ≡ 15 = omega arith in
+    keep-ready c.requires _ c.list_step.ensures _ m
+
+pub returns : goal.returns
+returns c =
+    let a = c.args in
+    let at = job_place a.n a.k a.job in
+    let m : at + 15 - at ≡ 15 = omega arith in
+    half_moved c.requires _ c.list_step.ensures _ m c.flags_of-flags.ensures c.keep.ensures

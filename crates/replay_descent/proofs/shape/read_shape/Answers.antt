@@ -1,0 +1,11 @@
+-- `replay_descent::shape::read_shape` meets its contract. Assumes nothing.
+use Rattle.replay_descent.specs.Shape.{shape_at}
+use Rattle.replay_descent.proofs.shape.read_shape.Goals as goal
+
+pub returns : goal.returns
+unfolding shape_at
+returns c =
+    let d = c.read_size-d.ensures.value in
+    let n = c.read_size-n.ensures.value in
+    let k = c.read_size-k.ensures.value in
+    rw (c.read_size-s.ensures.value, k, n, d)

@@ -1,0 +1,12 @@
+-- `replay_relay::lent` is safe: each part is as long as it says. Assumes nothing.
+use Rattle.std.proofs.Common.{arith, length-take}
+use Rattle.replay_relay.proofs.lent.Goals as goal
+
+pub slice_bounds-given-end-2 : goal.slice_bounds-given-end-2
+slice_bounds-given-end-2 c = simp length-take (omega arith)
+
+pub slice_bounds-given-end-4 : goal.slice_bounds-given-end-4
+slice_bounds-given-end-4 c = simp length-take (omega arith)
+
+pub slice_bounds-given-end-6 : goal.slice_bounds-given-end-6
+slice_bounds-given-end-6 c = simp length-take (omega arith)
