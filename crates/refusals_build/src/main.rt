@@ -131,6 +131,7 @@ fn lend(rt: &impl Print, number: u32, c: Call, lanes: &[f32]) -> io::Result<()> 
 }
 
 // A case: its numbers, and its first lanes after their number; lane i behind them is i.
+#[tactic(auto, unfolding(crate::specs::Given::behind_case))]
 fn one_case(rt: &impl Print, text: &[u8], c: Cursor, number: u32) -> io::Result<Cursor>
     ensures { IfOk result (λ behind. behind ≡ behind_case text.now c) }
 {

@@ -177,6 +177,7 @@ fn lend(
 }
 
 // A case: its numbers and two entries, then lanes and jobs, each after their number.
+#[tactic(auto, unfolding(crate::specs::Given::behind_case))]
 fn one_case(rt: &impl Print, text: &[u8], c: Cursor, number: u32) -> io::Result<Cursor>
     ensures { IfOk result (λ behind. behind ≡ behind_case text.now c) }
 {

@@ -295,6 +295,7 @@ fn called(rt: &impl Print, number: u32, kind: u32, l: Lent, s: State) -> io::Res
     Ok(())
 }
 
+#[tactic(auto, unfolding(crate::specs::Given::case_at))]
 fn one_case(rt: &impl Print, text: &[u8], c: Cursor, number: u32, kind: u32) -> io::Result<Cursor>
     ensures { IfOk result (λ passed. passed ≡ behind 16 text.now c) }
 {

@@ -158,6 +158,7 @@ fn lend(
 }
 
 // A case: its numbers, then what is lent to be read, each run after its length.
+#[tactic(auto, unfolding(crate::specs::Given::behind_case))]
 fn one_case(rt: &impl Print, text: &[u8], c: Cursor, number: u32) -> io::Result<Cursor>
     ensures { IfOk result (λ behind. behind ≡ behind_case text.now c) }
 {
