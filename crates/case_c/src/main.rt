@@ -4,9 +4,9 @@
 ghost use Rattle.std.specs.Prelude.{◌≡◌};
 ghost use Rattle.case_c.specs.Square.{lanes_of_squares, params_of_squares};
 
-use libc::STDOUT_FILENO;
 use params::SsgParams;
 use rules::Answer;
+use std::io;
 
 // What is taught is said by contracts: four counters are too few for the graph to tell every number of it.
 fn lanes() -> [f32; 4]
@@ -25,30 +25,30 @@ fn params_of(index_size: usize) -> SsgParams
         .threshold(0.5)
 }
 
-fn say(name: &[u8], index_size: usize, graph: &[u32]) {
+fn say(rt: &impl Print, name: &[u8], index_size: usize, graph: &[u32]) -> io::Result<()> {
     let mut page: [u8; 128] = [0; 128];
     let named = pages::put(&mut page, 0, name);
     let behind = refusals::put_graph(&mut page, named, graph, index_size);
     let end = pages::put(&mut page, behind, b"\n");
-    io::write_all(STDOUT_FILENO, pages::text(&page, end));
+    rt.write_all(pages::text(&page, end))
 }
 
 // The graph of the squares' lanes, in as many places as are lent for it.
-fn square(name: &[u8], index_size: usize, graph: &mut [u32]) {
+fn square(rt: &impl Print, name: &[u8], index_size: usize, graph: &mut [u32]) -> io::Result<()> {
     let lanes = lanes();
     let mut scratch_u: [u32; 4176] = [0; 4176];
     let mut scratch_f: [f32; 4176] = [0.0; 4176];
     let params = params_of(index_size);
     let answer = build::build(params, 1, 4, &lanes, graph, &mut scratch_u, &mut scratch_f);
     let Answer::Done = answer else {
-        return;
+        return Ok(());
     };
-    say(name, index_size, graph);
+    say(rt, name, index_size, graph)
 }
 
-fn main() {
+fn main(rt: HostRuntime) -> io::Result<()> {
     let mut narrow: [u32; 8] = [0; 8];
-    square(b"index_size 2", 2, &mut narrow);
+    square(&rt, b"index_size 2", 2, &mut narrow)?;
     let mut wide: [u32; 12] = [0; 12];
-    square(b"index_size 3", 3, &mut wide);
+    square(&rt, b"index_size 3", 3, &mut wide)
 }

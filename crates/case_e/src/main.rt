@@ -4,8 +4,8 @@
 ghost use Rattle.std.specs.Prelude.{◌≡◌};
 ghost use Rattle.case_e.specs.Square.{lanes_of_squares, graph_of_c, roots_of_e, query_of_e};
 
-use libc::STDOUT_FILENO;
 use rules::SearchAnswer;
+use std::io;
 
 // What is searched is said by contracts: the two nodes that are found do not tell every number of it.
 fn lanes() -> [f32; 4]
@@ -32,16 +32,11 @@ fn query() -> [f32; 1]
     [7.0]
 }
 
-fn line(rank: u64, node: u32, bits: u32) {
-    io::print_decimal(STDOUT_FILENO, rank);
-    io::write_all(STDOUT_FILENO, b",");
-    io::print_decimal(STDOUT_FILENO, node as u64);
-    io::write_all(STDOUT_FILENO, b",");
-    io::print_decimal(STDOUT_FILENO, bits as u64);
-    io::write_all(STDOUT_FILENO, b"\n");
+fn line(rt: &impl Print, rank: u64, node: u32, bits: u32) -> io::Result<()> {
+    println!(rt; "{rank},{node},{bits}")
 }
 
-fn main() {
+fn main(rt: HostRuntime) -> io::Result<()> {
     let lanes = lanes();
     let graph = graph();
     let roots = roots();
@@ -65,9 +60,9 @@ fn main() {
         &mut scratch_f,
     );
     let SearchAnswer::Found { m: _, takings: _ } = a else {
-        return;
+        return Ok(());
     };
-    io::write_all(STDOUT_FILENO, b"rank,node,bits\n");
-    line(1, nodes[0], bits[0]);
-    line(2, nodes[1], bits[1]);
+    println!(rt; "rank,node,bits")?;
+    line(&rt, 1, nodes[0], bits[0])?;
+    line(&rt, 2, nodes[1], bits[1])
 }

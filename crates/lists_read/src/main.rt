@@ -2,7 +2,8 @@
 #![tactic(auto)]
 
 use cases::Cursor;
-use libc::STDOUT_FILENO;
+use std::io;
+use std::os::fd::{AsRawFd, RawFd};
 
 // The cases passed, those of each kind, and the place in the list.
 #[derive(Clone, Copy)]
@@ -57,69 +58,72 @@ fn counted(text: &[u8]) -> Tally {
     t
 }
 
-fn put(n: u32, label: &[u8]) {
-    io::print_decimal(STDOUT_FILENO, n as u64);
-    io::write_all(STDOUT_FILENO, label);
+fn put(rt: &impl Print, n: u32, label: &[u8]) -> io::Result<()> {
+    rt.print(n)?;
+    rt.write_all(label)
 }
 
-fn print(t: Tally) {
+fn print(rt: &impl Print, t: Tally) -> io::Result<()> {
     let kinds = t.kinds;
-    put(kinds[1], b" builds, ");
-    put(kinds[2], b" searches, ");
-    put(kinds[3], b" descents, ");
-    put(kinds[4], b" single iterations, ");
-    put(kinds[5], b" relays, ");
-    put(kinds[6], b" links; ");
-    put(t.cursor.count, b" numbers, sum ");
-    put(t.cursor.sum, b"\n");
+    put(rt, kinds[1], b" builds, ")?;
+    put(rt, kinds[2], b" searches, ")?;
+    put(rt, kinds[3], b" descents, ")?;
+    put(rt, kinds[4], b" single iterations, ")?;
+    put(rt, kinds[5], b" relays, ")?;
+    put(rt, kinds[6], b" links; ")?;
+    put(rt, t.cursor.count, b" numbers, sum ")?;
+    put(rt, t.cursor.sum, b"\n")
 }
 
 // What went wrong first, and where.
-fn print_fault(c: Cursor) {
+fn print_fault(rt: &impl Print, c: Cursor) -> io::Result<()> {
     if c.fault != 0 {
-        put(c.fault, b" is the fault, at byte ");
-        io::print_decimal(STDOUT_FILENO, c.at as u64);
-        io::write_all(STDOUT_FILENO, b"\n");
+        put(rt, c.fault, b" is the fault, at byte ")?;
+        rt.println(c.at)?;
     }
+    Ok(())
 }
 
 // What the list that an argument names has, behind its name.
-fn tell(i: usize) {
-    let mut path = io::buffer();
-    let n = os::arg(i, &mut path);
-    io::write_all(STDOUT_FILENO, &path[..n]);
-    io::write_all(STDOUT_FILENO, b": ");
+fn tell(rt: &HostRuntime, i: usize) -> io::Result<()> {
+    let mut path = [0u8; 4096];
+    let n = inputs::arg(rt, i, &mut path);
+    rt.write_all(&path[..n])?;
+    rt.write_all(b": ")?;
     let mut room = cases::room();
-    let long = tallies::read_list(i, &mut room);
+    let long = tallies::read_list(rt, i, &mut room)?;
     let t = counted(&room[..long]);
-    print(t);
-    print_fault(t.cursor);
+    print(rt, t)?;
+    print_fault(rt, t.cursor)
 }
 
-// The number that the system gives to a list: the first that no open file has.
-fn free_number(i: usize) -> i32 {
-    let mut path = io::buffer();
-    let n = os::arg(i, &mut path);
-    let fd = os::open_read(&path[..n]);
-    libc::close(fd);
-    fd
+// The number that the system gives to a list: the first that no open file has. A list that cannot be opened gets none.
+fn free_number(rt: &HostRuntime, i: usize) -> Option<RawFd> {
+    let mut path = [0u8; 4096];
+    let n = inputs::arg(rt, i, &mut path);
+    let Ok(file) = inputs::open(rt, &path[..n]) else {
+        return None;
+    };
+    Some(file.as_raw_fd())
 }
 
 // A list that was left open would keep its number from the file that is opened next.
-fn read_list(i: usize) {
-    let first = free_number(i);
-    tell(i);
-    if first < 0 {
-        return;
+fn read_list(rt: &HostRuntime, i: usize) -> io::Result<()> {
+    let first = free_number(rt, i);
+    tell(rt, i)?;
+    if first.is_none() {
+        return Ok(());
     }
-    if first == free_number(i) {
-        io::write_all(STDOUT_FILENO, b"closed\n");
+    if first == free_number(rt, i) {
+        println!(rt; "closed")?;
     }
+    Ok(())
 }
 
-fn main() {
-    let count = os::arg_count();
+fn main(rt: HostRuntime) -> io::Result<()> {
+    let count = inputs::arg_count(&rt);
     for i in 1..count {
-        read_list(i);
+        read_list(&rt, i)?;
     }
+    Ok(())
 }

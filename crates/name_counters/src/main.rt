@@ -5,8 +5,10 @@ ghost use Rattle.std.specs.Prelude.{◌≡◌};
 ghost use Rattle.name_counters.specs.Messages.{line_start};
 
 use games::Game;
-use libc::STDOUT_FILENO;
 use rules::{Answer, Refusal, SearchAnswer};
+use std::env::Env;
+use std::fs::Files;
+use std::io;
 
 mod files;
 mod rooms;
@@ -19,53 +21,67 @@ const RANKS: u32 = 1;
 const REFUSALS: u32 = 2;
 
 // Prints some bytes. A line is started by what is printed, and the last of a game ended by `name_file`.
-fn say(s: &[u8]) {
-    io::write_all(STDOUT_FILENO, s);
+fn say(rt: &impl Print, s: &[u8]) -> io::Result<()> {
+    rt.write_all(s)
 }
 
 // Prints a number behind some bytes.
-fn put(before: &[u8], n: usize) {
-    say(before);
-    io::print_decimal(STDOUT_FILENO, n as u64);
+fn put(rt: &impl Print, before: &[u8], n: usize) -> io::Result<()> {
+    say(rt, before)?;
+    rt.print(n)
 }
 
-fn say_refusal(r: Refusal) {
+fn say_refusal(rt: &impl Print, r: Refusal) -> io::Result<()> {
     let mut page: [u8; 64] = [0; 64];
     let end = refusals::put_refusal(&mut page, 0, r);
-    say(pages::text(&page, end));
+    say(rt, pages::text(&page, end))
 }
 
 // Prints the words of a line from a place on.
-fn put_words(text: &[u8], from: usize) {
+fn put_words(rt: &impl Print, text: &[u8], from: usize) -> io::Result<()> {
     let end = lines::find(text, from, lines::WORDS);
     if end > text.len() {
-        return;
+        return Ok(());
     }
     if from > end {
-        return;
+        return Ok(());
     }
-    say(&text[from..end]);
+    say(rt, &text[from..end])
 }
 
 // Prints a number between two texts, and then the words of a line from a place on.
-fn put_line(before: &[u8], n: usize, behind: &[u8], text: &[u8], from: usize) {
-    put(before, n);
-    say(behind);
-    put_words(text, from);
+fn put_line(
+    rt: &impl Print,
+    before: &[u8],
+    n: usize,
+    behind: &[u8],
+    text: &[u8],
+    from: usize,
+) -> io::Result<()> {
+    put(rt, before, n)?;
+    say(rt, behind)?;
+    put_words(rt, text, from)
 }
 
 // The head of the table for a person.
-fn put_head(text: &[u8], g: Game) {
-    put(b"", g.n);
-    put_line(b" counters of ", g.dimension, b" lanes: ", text, g.title);
+fn put_head(rt: &impl Print, text: &[u8], g: Game) -> io::Result<()> {
+    put(rt, b"", g.n)?;
+    put_line(
+        rt,
+        b" counters of ",
+        g.dimension,
+        b" lanes: ",
+        text,
+        g.title,
+    )
 }
 
 // A row of numbers for a program.
-fn put_row(a: usize, b: usize, c: usize, d: usize) {
-    put(b"\n", a);
-    put(b",", b);
-    put(b",", c);
-    put(b",", d);
+fn put_row(rt: &impl Print, a: usize, b: usize, c: usize, d: usize) -> io::Result<()> {
+    put(rt, b"\n", a)?;
+    put(rt, b",", b)?;
+    put(rt, b",", c)?;
+    put(rt, b",", d)
 }
 
 // The start of a line, counted from 0.
@@ -82,7 +98,7 @@ fn line_start(text: &[u8], line: u32) -> usize
 }
 
 // What is wrong with a file, and where: a line for each of the faults of `games`, in the order of their numbers.
-fn put_fault(text: &[u8], g: Game) {
+fn put_fault(rt: &impl Print, text: &[u8], g: Game) -> io::Result<()> {
     let messages = b"nothing is wrong
 a line starts with lanes, teach, names, roots, counter or query
 a number of at most three places behind the point, or nan, should stand
@@ -93,18 +109,20 @@ counters stand before queries
 there is no room for more: 320 counters and queries, 64 roots
 ";
     put_line(
+        rt,
         b"line ",
         g.line,
         b": ",
         messages,
         line_start(messages, g.fault),
-    );
-    say(b", where it says: ");
-    put_words(text, g.place);
+    )?;
+    say(rt, b", where it says: ")?;
+    put_words(rt, text, g.place)
 }
 
 // One result of a query.
 fn put_result(
+    rt: &impl Print,
     text: &[u8],
     wholes: &[u32],
     table: u32,
@@ -112,17 +130,20 @@ fn put_result(
     rank: usize,
     node: usize,
     bits: usize,
-) {
+) -> io::Result<()> {
     if table == RANKS {
-        put_row(asked, rank, node, bits);
+        put_row(rt, asked, rank, node, bits)?;
     }
     if table == PERSON {
-        put_line(b"\n      ", rank, b"  ", text, games::name_of(wholes, node));
+        let name = games::name_of(wholes, node);
+        put_line(rt, b"\n      ", rank, b"  ", text, name)?;
     }
+    Ok(())
 }
 
 // The results of a query, nearest first.
 fn put_results(
+    rt: &impl Print,
     text: &[u8],
     wholes: &[u32],
     table: u32,
@@ -130,26 +151,28 @@ fn put_results(
     m: usize,
     nodes: &[u32],
     bits: &[u32],
-) {
+) -> io::Result<()> {
     let mut i: usize = 0;
     while i < m {
         let node = games::whole(nodes, i);
         let bit = games::whole(bits, i);
         i += 1;
-        put_result(text, wholes, table, asked, i, node, bit);
+        put_result(rt, text, wholes, table, asked, i, node, bit)?;
     }
+    Ok(())
 }
 
 // A query's refusal: no counter is named.
-fn put_refusal(table: u32, asked: usize, r: Refusal) {
+fn put_refusal(rt: &impl Print, table: u32, asked: usize, r: Refusal) -> io::Result<()> {
     if table == PERSON {
-        say(b"\n      no name: refused");
-        say_refusal(r);
+        say(rt, b"\n      no name: refused")?;
+        say_refusal(rt, r)?;
     }
     if table == REFUSALS {
         let said = answers::of_refusal(r);
-        put_row(asked, said.refusal, said.first, said.second);
+        put_row(rt, asked, said.refusal, said.first, said.second)?;
     }
+    Ok(())
 }
 
 // Looks one query up, whose lanes stand behind those of the counters.
@@ -183,6 +206,7 @@ fn look(
 
 // Looks a query up and prints its answer, in one of the tables.
 fn ask(
+    rt: &impl Print,
     text: &[u8],
     g: Game,
     wholes: &[u32],
@@ -191,7 +215,7 @@ fn ask(
     query: &[f32],
     table: u32,
     asked: usize,
-) {
+) -> io::Result<()> {
     let mut nodes: [u32; 64] = [0; 64];
     let mut bits: [u32; 64] = [0; 64];
     let roots = cases::least(g.roots, wholes.len());
@@ -206,27 +230,31 @@ fn ask(
     );
     match a {
         SearchAnswer::Found { m, takings: _ } => {
-            put_results(text, wholes, table, asked, m, &nodes, &bits);
+            put_results(rt, text, wholes, table, asked, m, &nodes, &bits)
         }
-        SearchAnswer::Refused(r) => put_refusal(table, asked, r),
+        SearchAnswer::Refused(r) => put_refusal(rt, table, asked, r),
     }
 }
 
 // The query itself, in the table for a person.
-fn put_asked(text: &[u8], wholes: &[u32], table: u32, asked: usize, node: usize) {
+fn put_asked(
+    rt: &impl Print,
+    text: &[u8],
+    wholes: &[u32],
+    table: u32,
+    asked: usize,
+    node: usize,
+) -> io::Result<()> {
     if table == PERSON {
-        put_line(
-            b"\n\nquery ",
-            asked,
-            b"  ",
-            text,
-            games::name_of(wholes, node),
-        );
+        let name = games::name_of(wholes, node);
+        put_line(rt, b"\n\nquery ", asked, b"  ", text, name)?;
     }
+    Ok(())
 }
 
 // Looks all queries up, for one of the tables.
 fn ask_all(
+    rt: &impl Print,
     text: &[u8],
     g: Game,
     wholes: &[u32],
@@ -234,26 +262,28 @@ fn ask_all(
     graph: &[u32],
     queries: &[f32],
     table: u32,
-) {
+) -> io::Result<()> {
     let d = g.dimension;
     let mut i: usize = 0;
     let mut at: usize = 0;
     while i < g.asked {
         if at > queries.len() {
-            return;
+            return Ok(());
         }
         if d > queries.len() - at {
-            return;
+            return Ok(());
         }
         let end = at + d;
         put_asked(
+            rt,
             text,
             wholes,
             table,
             i + 1,
             std::num::wrapping_add_usize(g.n, i),
-        );
+        )?;
         ask(
+            rt,
             text,
             g,
             wholes,
@@ -262,48 +292,60 @@ fn ask_all(
             &queries[at..end],
             table,
             i + 1,
-        );
+        )?;
         at = end;
         i += 1;
     }
+    Ok(())
 }
 
 // One place of the graph; the first of a row starts its line.
-fn put_edge(row: usize, column: usize, n: usize, to: usize) {
+fn put_edge(rt: &impl Print, row: usize, column: usize, n: usize, to: usize) -> io::Result<()> {
     if column == 0 {
-        put(b"\n", row);
-        say(b",");
+        put(rt, b"\n", row)?;
+        say(rt, b",")?;
     }
     if to < n {
         if column > 0 {
-            say(b" ");
+            say(rt, b" ")?;
         }
-        put(b"", to);
+        put(rt, b"", to)?;
     }
+    Ok(())
 }
 
 // The edges of every node.
-fn put_graph(graph: &[u32], n: usize, index_size: usize) {
+fn put_graph(rt: &impl Print, graph: &[u32], n: usize, index_size: usize) -> io::Result<()> {
     let mut i: usize = 0;
     if index_size == 0 {
-        return;
+        return Ok(());
     }
     while i < graph.len() {
-        put_edge(i / index_size, i % index_size, n, games::whole(graph, i));
+        let to = games::whole(graph, i);
+        put_edge(rt, i / index_size, i % index_size, n, to)?;
         i += 1;
     }
+    Ok(())
 }
 
-fn put_tables(text: &[u8], g: Game, wholes: &[u32], lanes: &[f32], graph: &[u32], queries: &[f32]) {
-    put_head(text, g);
-    ask_all(text, g, wholes, lanes, graph, queries, PERSON);
-    say(b"\n\nquery,rank,node,bits");
-    ask_all(text, g, wholes, lanes, graph, queries, RANKS);
-    say(b"\n\nquery,refusal,first,second");
-    ask_all(text, g, wholes, lanes, graph, queries, REFUSALS);
-    say(b"\n\nnode,edges");
+fn put_tables(
+    rt: &impl Print,
+    text: &[u8],
+    g: Game,
+    wholes: &[u32],
+    lanes: &[f32],
+    graph: &[u32],
+    queries: &[f32],
+) -> io::Result<()> {
+    put_head(rt, text, g)?;
+    ask_all(rt, text, g, wholes, lanes, graph, queries, PERSON)?;
+    say(rt, b"\n\nquery,rank,node,bits")?;
+    ask_all(rt, text, g, wholes, lanes, graph, queries, RANKS)?;
+    say(rt, b"\n\nquery,refusal,first,second")?;
+    ask_all(rt, text, g, wholes, lanes, graph, queries, REFUSALS)?;
+    say(rt, b"\n\nnode,edges")?;
     let params = g.params;
-    put_graph(graph, g.n, params.index_size);
+    put_graph(rt, graph, g.n, params.index_size)
 }
 
 fn teach(g: Game, lanes: &[f32], graph: &mut [u32]) -> Answer {
@@ -321,69 +363,83 @@ fn teach(g: Game, lanes: &[f32], graph: &mut [u32]) -> Answer {
 }
 
 // Teaches the game and asks its queries.
-fn play(text: &[u8], g: Game, wholes: &[u32], lanes: &[f32], graph: &mut [u32], queries: &[f32]) {
+fn play(
+    rt: &impl Print,
+    text: &[u8],
+    g: Game,
+    wholes: &[u32],
+    lanes: &[f32],
+    graph: &mut [u32],
+    queries: &[f32],
+) -> io::Result<()> {
     let a = teach(g, lanes, graph);
     match a {
-        Answer::Done => put_tables(text, g, wholes, lanes, graph, queries),
+        Answer::Done => put_tables(rt, text, g, wholes, lanes, graph, queries),
         Answer::Refused(r) => {
-            say(b"the game is refused");
-            say_refusal(r);
+            say(rt, b"the game is refused")?;
+            say_refusal(rt, r)
         }
     }
 }
 
 // The parts of what was read: the counters' lanes, and the queries' behind them.
-fn with_parts(text: &[u8], g: Game, wholes: &[u32], values: &[f32]) {
+fn with_parts(
+    rt: &impl Print,
+    text: &[u8],
+    g: Game,
+    wholes: &[u32],
+    values: &[f32],
+) -> io::Result<()> {
     let mut graph = rooms::graph_room();
     let params = g.params;
     let cut = cases::least(cases::area(g.n, g.dimension), values.len());
     let long = cases::least(cases::area(g.n, params.index_size), graph.len());
     play(
+        rt,
         text,
         g,
         wholes,
         &values[..cut],
         &mut graph[..long],
         &values[cut..],
-    );
+    )
 }
 
-fn name_counters(text: &[u8]) {
+fn name_counters(rt: &impl Print, text: &[u8]) -> io::Result<()> {
     let mut wholes: [u32; 388] = [0; 388];
     let mut values = rooms::values_room();
     let g = games::read(text, &mut wholes, &mut values);
     if g.fault != games::FINE {
-        put_fault(text, g);
-        return;
+        return put_fault(rt, text, g);
     }
-    with_parts(text, g, &wholes, &values);
+    with_parts(rt, text, g, &wholes, &values)
 }
 
 // A game that is read from standard input (0) or from the file that an argument names.
-fn name_file(i: usize) {
-    let mut room = io::large_buffer();
-    let n = tallies::read_list(i, &mut room);
+fn name_file(rt: &(impl Env + Files + Input + Print), i: usize) -> io::Result<()> {
+    let mut room = rooms::text_room();
+    let n = tallies::read_list(rt, i, &mut room)?;
     if files::too_long(n) {
-        say(b"the file is longer than 65,535 bytes\n");
-        return;
+        return say(rt, b"the file is longer than 65,535 bytes\n");
     }
-    name_counters(&room[..n]);
-    say(b"\n");
+    name_counters(rt, &room[..n])?;
+    say(rt, b"\n")
 }
 
 // The argument, or 0 where it is `-`. One that is longer than its room has length 0 there, and so is no `-`.
-fn source(i: usize) -> usize {
+fn source(env: &impl Env, i: usize) -> usize {
     let mut name: [u8; 1] = [0; 1];
-    let n = os::arg(i, &mut name);
+    let n = inputs::arg(env, i, &mut name);
     if files::is_dash(&name[..n]) {
         return 0;
     }
     i
 }
 
-fn main() {
-    let count = os::arg_count();
+fn main(rt: HostRuntime) -> io::Result<()> {
+    let count = inputs::arg_count(&rt);
     for i in files::first(count)..count {
-        name_file(source(i));
+        name_file(&rt, source(&rt, i))?;
     }
+    Ok(())
 }

@@ -1,6 +1,13 @@
 // Places for the largest game that is read, 320 counters and queries. A contract says how long they are: each is written before it is read.
 ghost use Rattle.std.specs.Prelude.{◌≡◌, length};
 
+/// Places for the bytes of a file: one more than a game may have.
+pub fn text_room() -> [u8; 65536]
+    ensures { 65536 ≡ length result }
+{
+    [0; 65536]
+}
+
 /// Places for the graph of 320 counters.
 pub fn graph_room() -> [u32; 20480]
     ensures { 20480 ≡ length result }

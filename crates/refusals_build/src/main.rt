@@ -1,7 +1,7 @@
 // Square C and every row of the table that `build` can give, at its edges and beside others; each case of stdin says what became of lent junk.
 #![tactic(auto)]
 
-ghost use Rattle.std.specs.Prelude.{◌≡◌};
+ghost use Rattle.std.specs.Prelude.{◌≡◌, IfOk};
 ghost use Rattle.pages.specs.Page.{Puts};
 ghost use Rattle.refusals_build.specs.Given.{behind_case};
 ghost use Rattle.refusals_build.specs.Left.{refused_left};
@@ -9,9 +9,9 @@ ghost use Rattle.refusals_build.specs.Texts.{long_text, printed_text, rest_text}
 
 use cases::Cursor;
 use given::Call;
-use libc::STDOUT_FILENO;
 use refusals::Left;
 use rules::Answer;
+use std::io;
 
 mod given;
 
@@ -79,37 +79,39 @@ fn put_rest(
 }
 
 fn told(
+    rt: &impl Print,
     number: u32,
     answer: Answer,
     index_size: usize,
     graph: &[u32],
     words: &[u32],
     floats: &[f32],
-) {
+) -> io::Result<()> {
     let mut page: [u8; 4096] = [0; 4096];
     let case = pages::put_word(&mut page, 0, b"case ", number);
     let end = put_rest(&mut page, case, answer, index_size, graph, words, floats);
-    io::write_all(STDOUT_FILENO, pages::text(&page, end));
+    rt.write_all(pages::text(&page, end))
 }
 
 // The call on the slices it lends, and its line.
 fn called(
+    rt: &impl Print,
     number: u32,
     c: Call,
     lanes: &[f32],
     graph: &mut [u32],
     words: &mut [u32],
     floats: &mut [f32],
-) {
+) -> io::Result<()> {
     refusals::fill_words(graph, GRAPH);
     refusals::fill_scratch(words, floats);
     let params = c.params;
     let answer = build::build(params, c.dimension, c.n, lanes, graph, words, floats);
-    told(number, answer, params.index_size, graph, words, floats);
+    told(rt, number, answer, params.index_size, graph, words, floats)
 }
 
 // A call on the first of given lanes and on places of our own, as many as it says.
-fn lend(number: u32, c: Call, lanes: &[f32]) {
+fn lend(rt: &impl Print, number: u32, c: Call, lanes: &[f32]) -> io::Result<()> {
     let mut graph: [u32; 4096] = [0; 4096];
     let mut words: [u32; 36864] = [0; 36864];
     let mut floats: [f32; 36864] = [0.0; 36864];
@@ -118,36 +120,38 @@ fn lend(number: u32, c: Call, lanes: &[f32]) {
     let words_long = cases::least(c.words, words.len());
     let floats_long = cases::least(c.floats, floats.len());
     called(
+        rt,
         number,
         c,
         &lanes[..lanes_long],
         &mut graph[..graph_long],
         &mut words[..words_long],
         &mut floats[..floats_long],
-    );
+    )
 }
 
 // A case: its numbers, and its first lanes after their number; lane i behind them is i.
-fn one_case(text: &[u8], c: Cursor, number: u32) -> Cursor
-    ensures { result ≡ behind_case text.now c }
+#[tactic(auto, unfolding(crate::specs::Given::behind_case))]
+fn one_case(rt: &impl Print, text: &[u8], c: Cursor, number: u32) -> io::Result<Cursor>
+    ensures { IfOk result (λ behind. behind ≡ behind_case text.now c) }
 {
     let read = given::read_case(text, c);
     let mut lanes: [f32; 4096] = [0.0; 4096];
     refusals::fill_floats(&mut lanes, 0.0);
     let first = refusals::read_lanes(text, read.cursor, &mut lanes);
-    lend(number, read.call, &lanes);
-    first.cursor
+    lend(rt, number, read.call, &lanes)?;
+    Ok(first.cursor)
 }
 
 // The last line: how many cases there were, and the reader's fault.
-fn say_end(passed: u32, c: Cursor) {
+fn say_end(rt: &impl Print, passed: u32, c: Cursor) -> io::Result<()> {
     let mut page: [u8; 64] = [0; 64];
     let end = refusals::put_end(&mut page, 0, passed, c);
-    io::write_all(STDOUT_FILENO, pages::text(&page, end));
+    rt.write_all(pages::text(&page, end))
 }
 
 // A proved loop has to end: it counts its turns down, from more cases than a list has.
-fn all_cases(text: &[u8]) {
+fn all_cases(rt: &impl Print, text: &[u8]) -> io::Result<()> {
     let mut turns: u32 = 65536;
     let mut passed: u32 = 0;
     let mut cursor = cases::start();
@@ -155,18 +159,18 @@ fn all_cases(text: &[u8]) {
         let case = replays::next_case(text, cursor, passed);
         let behind = case.cursor;
         if case.kind == 0 {
-            say_end(passed, behind);
-            return;
+            return say_end(rt, passed, behind);
         }
         passed = std::num::wrapping_add_u32(passed, 1);
-        let next = one_case(text, behind, passed);
+        let next = one_case(rt, text, behind, passed)?;
         cursor = next;
         turns -= 1;
     }
+    Ok(())
 }
 
-fn main() {
+fn main(rt: HostRuntime) -> io::Result<()> {
     let mut room = cases::room();
-    let n = io::read_full(0, &mut room);
-    all_cases(&room[..n]);
+    let n = inputs::read_full(&mut rt.reader(), &mut room)?;
+    all_cases(&rt, &room[..n])
 }

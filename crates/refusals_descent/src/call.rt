@@ -10,9 +10,9 @@ ghost use Rattle.refusals_descent.specs.Given.{filled};
 ghost use Rattle.refusals_descent.specs.State.{with_context, formed_words, usual_words, usual_floats, is_usual, words_given, floats_given};
 ghost use Rattle.refusals_descent.specs.Outcome.{uncounted, outcome_of, left_of};
 
-use libc::STDOUT_FILENO;
 use refusals::Left;
 use rules::{Answer, IterateAnswer};
+use std::io;
 
 // What the first places of a begin's state hold before the call; each further place holds one more.
 const WORDS: u32 = 0xCD00_0000;
@@ -230,12 +230,19 @@ fn put_number(page: &mut [u8], c: Call, number: u32) -> usize {
 }
 
 // The line of a call.
-fn say(number: u32, c: Call, answer: IterateAnswer, state_u: &[u32], left: Left) {
+fn say(
+    rt: &impl Print,
+    number: u32,
+    c: Call,
+    answer: IterateAnswer,
+    state_u: &[u32],
+    left: Left,
+) -> io::Result<()> {
     let mut page: [u8; 4096] = [0; 4096];
     let call = put_number(&mut page, c, number);
     let behind = put_answer(&mut page, call, c, answer, state_u);
     let end = refusals::put_left(&mut page, behind, left);
-    io::write_all(STDOUT_FILENO, pages::text(&page, end));
+    rt.write_all(pages::text(&page, end))
 }
 
 // The answer of a begin, which has no counts.
@@ -288,8 +295,10 @@ fn asked(
     )
 }
 
-/// The call on the slices it lends, scratch full of junk; `given_u` and `given_f` are its state as it was. Its line is said at once.
+/// The call on the slices it lends, scratch full of junk; `given_u` and `given_f` are its state as it was. Its line is said at once, behind the call: where that
+/// fails, the slices are as the call left them.
 pub fn called(
+    rt: &impl Print,
     number: u32,
     c: Call,
     lanes: &[f32],
@@ -300,12 +309,12 @@ pub fn called(
     state_f: &mut [f32],
     words: &mut [u32],
     floats: &mut [f32],
-)
+) -> io::Result<()>
     ensures { descents.left state_u.new state_f.new words.new floats.new ≡ left_of c lanes.now draws.now state_u.old state_f.old (length words.old) (length floats.old) }
 {
     refusals::fill_scratch(words, floats);
     let answer = asked(c, lanes, draws, state_u, state_f, words, floats);
     let as_given = stands(state_u, state_f, given_u, given_f);
     let left = left(answer, as_given, words, floats);
-    say(number, c, answer, state_u, left);
+    say(rt, number, c, answer, state_u, left)
 }

@@ -1,7 +1,7 @@
 // Every row of the table of a relay's `open`, at its edges and beside the rows after it; stdin says what its numbers are.
 #![tactic(auto)]
 
-ghost use Rattle.std.specs.Prelude.{◌≡◌};
+ghost use Rattle.std.specs.Prelude.{◌≡◌, IfOk};
 ghost use Rattle.pages.specs.Page.{Puts};
 ghost use Rattle.refusals_open.specs.Given.{behind_case};
 ghost use Rattle.refusals_open.specs.Left.{refused_left};
@@ -9,9 +9,9 @@ ghost use Rattle.refusals_open.specs.Texts.{rest_text};
 
 use cases::Cursor;
 use given::{Call, Entry};
-use libc::STDOUT_FILENO;
 use refusals::Left;
 use rules::Answer;
+use std::io;
 
 mod given;
 
@@ -55,21 +55,23 @@ fn put_rest(
 }
 
 fn told(
+    rt: &impl Print,
     number: u32,
     answer: Answer,
     words: &[u32],
     floats: &[f32],
     scratch_u: &[u32],
     scratch_f: &[f32],
-) {
+) -> io::Result<()> {
     let mut page: [u8; 128] = [0; 128];
     let case = pages::put_word(&mut page, 0, b"case ", number);
     let end = put_rest(&mut page, case, answer, words, floats, scratch_u, scratch_f);
-    io::write_all(STDOUT_FILENO, pages::text(&page, end));
+    rt.write_all(pages::text(&page, end))
 }
 
 // The call on the slices it lends, and its line.
 fn called(
+    rt: &impl Print,
     number: u32,
     c: Call,
     lanes: &[f32],
@@ -80,7 +82,7 @@ fn called(
     floats: &mut [f32],
     scratch_u: &mut [u32],
     scratch_f: &mut [f32],
-) {
+) -> io::Result<()> {
     refusals::fill_scratch(words, floats);
     refusals::fill_scratch(scratch_u, scratch_f);
     let answer = relay_opening::open(
@@ -96,11 +98,19 @@ fn called(
         scratch_u,
         scratch_f,
     );
-    told(number, answer, words, floats, scratch_u, scratch_f);
+    told(rt, number, answer, words, floats, scratch_u, scratch_f)
 }
 
 // The call on the parts of our places that are as long as it says.
-fn in_places(number: u32, c: Call, lanes: &[f32], nodes: &[u32], dists: &[f32], jobs: &[u32]) {
+fn in_places(
+    rt: &impl Print,
+    number: u32,
+    c: Call,
+    lanes: &[f32],
+    nodes: &[u32],
+    dists: &[f32],
+    jobs: &[u32],
+) -> io::Result<()> {
     let mut words: [u32; 1540] = [0; 1540];
     let mut floats: [f32; 576] = [0.0; 576];
     let mut scratch_u: [u32; 6145] = [0; 6145];
@@ -110,6 +120,7 @@ fn in_places(number: u32, c: Call, lanes: &[f32], nodes: &[u32], dists: &[f32], 
     let u_long = cases::least(c.scratch_u, scratch_u.len());
     let f_long = cases::least(c.scratch_f, scratch_f.len());
     called(
+        rt,
         number,
         c,
         lanes,
@@ -120,37 +131,55 @@ fn in_places(number: u32, c: Call, lanes: &[f32], nodes: &[u32], dists: &[f32], 
         &mut floats[..floats_long],
         &mut scratch_u[..u_long],
         &mut scratch_f[..f_long],
-    );
+    )
 }
 
 // The call on the parts of the lists that are as long as it says.
-fn cut(number: u32, c: Call, lanes: &[f32], nodes: &[u32], dists: &[f32], jobs: &[u32]) {
+fn cut(
+    rt: &impl Print,
+    number: u32,
+    c: Call,
+    lanes: &[f32],
+    nodes: &[u32],
+    dists: &[f32],
+    jobs: &[u32],
+) -> io::Result<()> {
     let nodes_long = cases::least(c.nodes, nodes.len());
     let dists_long = cases::least(c.dists, dists.len());
     in_places(
+        rt,
         number,
         c,
         lanes,
         &nodes[..nodes_long],
         &dists[..dists_long],
         jobs,
-    );
+    )
 }
 
 // A call on given lanes and jobs, on lists that are unfilled but for two entries.
-fn lend(number: u32, c: Call, lanes: &[f32], jobs: &[u32], e: Entry, f: Entry) {
+fn lend(
+    rt: &impl Print,
+    number: u32,
+    c: Call,
+    lanes: &[f32],
+    jobs: &[u32],
+    e: Entry,
+    f: Entry,
+) -> io::Result<()> {
     let mut nodes: [u32; 256] = [4; 256];
     let mut dists: [f32; 256] = [EMPTY; 256];
     relays::put_word(&mut nodes, e.at, e.node);
     relays::put_float(&mut dists, e.at, e.dist);
     relays::put_word(&mut nodes, f.at, f.node);
     relays::put_float(&mut dists, f.at, f.dist);
-    cut(number, c, lanes, &nodes, &dists, jobs);
+    cut(rt, number, c, lanes, &nodes, &dists, jobs)
 }
 
 // A case: its numbers and two entries, then lanes and jobs, each after their number.
-fn one_case(text: &[u8], c: Cursor, number: u32) -> Cursor
-    ensures { result ≡ behind_case text.now c }
+#[tactic(auto, unfolding(crate::specs::Given::behind_case))]
+fn one_case(rt: &impl Print, text: &[u8], c: Cursor, number: u32) -> io::Result<Cursor>
+    ensures { IfOk result (λ behind. behind ≡ behind_case text.now c) }
 {
     let read = given::read_case(text, c);
     let mut lanes: [f32; 1025] = [0.0; 1025];
@@ -160,25 +189,26 @@ fn one_case(text: &[u8], c: Cursor, number: u32) -> Cursor
     let lanes_long = l.value;
     let jobs_long = j.value;
     lend(
+        rt,
         number,
         read.call,
         &lanes[..lanes_long],
         &jobs[..jobs_long],
         read.first,
         read.second,
-    );
-    j.cursor
+    )?;
+    Ok(j.cursor)
 }
 
 // The last line: how many cases there were, and the reader's fault.
-fn say_end(passed: u32, c: Cursor) {
+fn say_end(rt: &impl Print, passed: u32, c: Cursor) -> io::Result<()> {
     let mut page: [u8; 64] = [0; 64];
     let end = refusals::put_end(&mut page, 0, passed, c);
-    io::write_all(STDOUT_FILENO, pages::text(&page, end));
+    rt.write_all(pages::text(&page, end))
 }
 
 // A proved loop has to end: it counts its turns down, from more cases than a list has.
-fn all_cases(text: &[u8]) {
+fn all_cases(rt: &impl Print, text: &[u8]) -> io::Result<()> {
     let mut turns: u32 = 65536;
     let mut passed: u32 = 0;
     let mut cursor = cases::start();
@@ -186,18 +216,18 @@ fn all_cases(text: &[u8]) {
         let case = replays::next_case(text, cursor, passed);
         let behind = case.cursor;
         if case.kind == 0 {
-            say_end(passed, behind);
-            return;
+            return say_end(rt, passed, behind);
         }
         passed = std::num::wrapping_add_u32(passed, 1);
-        let next = one_case(text, behind, passed);
+        let next = one_case(rt, text, behind, passed)?;
         cursor = next;
         turns -= 1;
     }
+    Ok(())
 }
 
-fn main() {
+fn main(rt: HostRuntime) -> io::Result<()> {
     let mut room = cases::room();
-    let n = io::read_full(0, &mut room);
-    all_cases(&room[..n]);
+    let n = inputs::read_full(&mut rt.reader(), &mut room)?;
+    all_cases(&rt, &room[..n])
 }

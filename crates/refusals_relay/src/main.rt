@@ -1,7 +1,7 @@
 // Every row of the tables of a relay's move and close, and every clause of a well-formed relay state; stdin says what its numbers are.
 #![tactic(auto)]
 
-ghost use Rattle.std.specs.Prelude.{◌≡◌};
+ghost use Rattle.std.specs.Prelude.{◌≡◌, IfOk};
 ghost use Rattle.cases.specs.Text.{behind};
 ghost use Rattle.pages.specs.Page.{Puts};
 ghost use Rattle.refusals_relay.specs.Given.{words_damaged, floats_damaged};
@@ -10,9 +10,9 @@ ghost use Rattle.refusals_relay.specs.Texts.{moved_text, closed_text};
 
 use cases::Cursor;
 use given::{Lent, State};
-use libc::STDOUT_FILENO;
 use refusals::Left;
 use rules::Answer;
+use std::io;
 
 mod given;
 
@@ -102,66 +102,75 @@ fn put_moved(page: &mut [u8], at: usize, answer: Answer) -> usize
     }
 }
 
-fn told_move(number: u32, answer: Answer, left: Left) {
+fn told_move(rt: &impl Print, number: u32, answer: Answer, left: Left) -> io::Result<()> {
     let mut page: [u8; 128] = [0; 128];
     let case = pages::put_word(&mut page, 0, b"case ", number);
     let call = pages::put(&mut page, case, b", move");
     let behind = put_moved(&mut page, call, answer);
     let end = refusals::put_left(&mut page, behind, left);
-    io::write_all(STDOUT_FILENO, pages::text(&page, end));
+    rt.write_all(pages::text(&page, end))
 }
 
 // A move on a state, and its line. `twin_words` and `twin_floats` are as the state is.
 fn moved(
+    rt: &impl Print,
     number: u32,
     l: Lent,
     words: &mut [u32],
     floats: &mut [f32],
     twin_words: &[u32],
     twin_floats: &[f32],
-) {
+) -> io::Result<()> {
     let answer = relay_move::move_job(l.n, l.k, l.job, words, floats);
-    told_move(number, answer, same(words, floats, twin_words, twin_floats));
+    told_move(
+        rt,
+        number,
+        answer,
+        same(words, floats, twin_words, twin_floats),
+    )
 }
 
 // A move on the parts that are as long as the call says, and on those of a twin of the state.
 fn move_cut(
+    rt: &impl Print,
     number: u32,
     l: Lent,
     words: &mut [u32],
     floats: &mut [f32],
     twin_words: &[u32],
     twin_floats: &[f32],
-) {
+) -> io::Result<()> {
     let words_long = cases::least(l.words, words.len());
     let floats_long = cases::least(l.floats, floats.len());
     let twin_words_long = cases::least(l.words, twin_words.len());
     let twin_floats_long = cases::least(l.floats, twin_floats.len());
     moved(
+        rt,
         number,
         l,
         &mut words[..words_long],
         &mut floats[..floats_long],
         &twin_words[..twin_words_long],
         &twin_floats[..twin_floats_long],
-    );
+    )
 }
 
 // A move on a state, beside a twin of it.
-fn lend_move(number: u32, l: Lent, s: State) {
+fn lend_move(rt: &impl Print, number: u32, l: Lent, s: State) -> io::Result<()> {
     let mut words: [u32; 1293] = [0; 1293];
     let mut floats: [f32; 329] = [0.0; 329];
     make(s, &mut words, &mut floats);
     let twin_words = words;
     let twin_floats = floats;
     move_cut(
+        rt,
         number,
         l,
         &mut words,
         &mut floats,
         &twin_words,
         &twin_floats,
-    );
+    )
 }
 
 // What became of all places where a close is refused.
@@ -207,16 +216,24 @@ fn put_closed(
     }
 }
 
-fn told_close(number: u32, answer: Answer, nodes: &[u32], dists: &[f32], reports: &[u32]) {
+fn told_close(
+    rt: &impl Print,
+    number: u32,
+    answer: Answer,
+    nodes: &[u32],
+    dists: &[f32],
+    reports: &[u32],
+) -> io::Result<()> {
     let mut page: [u8; 256] = [0; 256];
     let case = pages::put_word(&mut page, 0, b"case ", number);
     let call = pages::put(&mut page, case, b", close");
     let end = put_closed(&mut page, call, answer, nodes, dists, reports);
-    io::write_all(STDOUT_FILENO, pages::text(&page, end));
+    rt.write_all(pages::text(&page, end))
 }
 
 // A close of a state, and its line.
 fn closed(
+    rt: &impl Print,
     number: u32,
     l: Lent,
     words: &[u32],
@@ -224,15 +241,21 @@ fn closed(
     nodes: &mut [u32],
     dists: &mut [f32],
     reports: &mut [u32],
-) {
+) -> io::Result<()> {
     refusals::fill_scratch(nodes, dists);
     refusals::fill_words(reports, REPORTS);
     let answer = relay_close::close(l.n, l.k, words, floats, nodes, dists, reports);
-    told_close(number, answer, nodes, dists, reports);
+    told_close(rt, number, answer, nodes, dists, reports)
 }
 
 // A close of parts that are as long as the call says.
-fn close_cut(number: u32, l: Lent, words: &[u32], floats: &[f32]) {
+fn close_cut(
+    rt: &impl Print,
+    number: u32,
+    l: Lent,
+    words: &[u32],
+    floats: &[f32],
+) -> io::Result<()> {
     let mut nodes: [u32; 9] = [0; 9];
     let mut dists: [f32; 9] = [0.0; 9];
     let mut reports: [u32; 129] = [0; 129];
@@ -242,6 +265,7 @@ fn close_cut(number: u32, l: Lent, words: &[u32], floats: &[f32]) {
     let dists_long = cases::least(l.dists, dists.len());
     let reports_long = cases::least(l.reports, reports.len());
     closed(
+        rt,
         number,
         l,
         &words[..words_long],
@@ -249,44 +273,46 @@ fn close_cut(number: u32, l: Lent, words: &[u32], floats: &[f32]) {
         &mut nodes[..nodes_long],
         &mut dists[..dists_long],
         &mut reports[..reports_long],
-    );
+    )
 }
 
 // A close of a state.
-fn lend_close(number: u32, l: Lent, s: State) {
+fn lend_close(rt: &impl Print, number: u32, l: Lent, s: State) -> io::Result<()> {
     let mut words: [u32; 1293] = [0; 1293];
     let mut floats: [f32; 329] = [0.0; 329];
     make(s, &mut words, &mut floats);
-    close_cut(number, l, &words, &floats);
+    close_cut(rt, number, l, &words, &floats)
 }
 
 // The calls of a case of some kind: 1 a move, 2 a close, else both.
-fn called(number: u32, kind: u32, l: Lent, s: State) {
+fn called(rt: &impl Print, number: u32, kind: u32, l: Lent, s: State) -> io::Result<()> {
     if kind != 2 {
-        lend_move(number, l, s);
+        lend_move(rt, number, l, s)?;
     }
     if kind != 1 {
-        lend_close(number, l, s);
+        lend_close(rt, number, l, s)?;
     }
+    Ok(())
 }
 
-fn one_case(text: &[u8], c: Cursor, number: u32, kind: u32) -> Cursor
-    ensures { result ≡ behind 16 text.now c }
+#[tactic(auto, unfolding(crate::specs::Given::case_at))]
+fn one_case(rt: &impl Print, text: &[u8], c: Cursor, number: u32, kind: u32) -> io::Result<Cursor>
+    ensures { IfOk result (λ passed. passed ≡ behind 16 text.now c) }
 {
     let read = given::read_case(text, c);
-    called(number, kind, read.lent, read.state);
-    read.cursor
+    called(rt, number, kind, read.lent, read.state)?;
+    Ok(read.cursor)
 }
 
 // The last line: how many cases there were, and the reader's fault.
-fn say_end(passed: u32, c: Cursor) {
+fn say_end(rt: &impl Print, passed: u32, c: Cursor) -> io::Result<()> {
     let mut page: [u8; 64] = [0; 64];
     let end = refusals::put_end(&mut page, 0, passed, c);
-    io::write_all(STDOUT_FILENO, pages::text(&page, end));
+    rt.write_all(pages::text(&page, end))
 }
 
 // A proved loop has to end: it counts its turns down, from more cases than a list has.
-fn all_cases(text: &[u8]) {
+fn all_cases(rt: &impl Print, text: &[u8]) -> io::Result<()> {
     let mut turns: u32 = 65536;
     let mut passed: u32 = 0;
     let mut cursor = cases::start();
@@ -294,18 +320,18 @@ fn all_cases(text: &[u8]) {
         let case = replays::next_case(text, cursor, passed);
         let behind = case.cursor;
         if case.kind == 0 {
-            say_end(passed, behind);
-            return;
+            return say_end(rt, passed, behind);
         }
         passed = std::num::wrapping_add_u32(passed, 1);
-        let next = one_case(text, behind, passed, case.kind);
+        let next = one_case(rt, text, behind, passed, case.kind)?;
         cursor = next;
         turns -= 1;
     }
+    Ok(())
 }
 
-fn main() {
+fn main(rt: HostRuntime) -> io::Result<()> {
     let mut room = cases::room();
-    let n = io::read_full(0, &mut room);
-    all_cases(&room[..n]);
+    let n = inputs::read_full(&mut rt.reader(), &mut room)?;
+    all_cases(&rt, &room[..n])
 }

@@ -1,7 +1,7 @@
 // Squares D to G and J and every row of the table that `search` can give, at its edges and beside others; each case of stdin says what became of lent junk.
 #![tactic(auto)]
 
-ghost use Rattle.std.specs.Prelude.{◌≡◌};
+ghost use Rattle.std.specs.Prelude.{◌≡◌, IfOk};
 ghost use Rattle.pages.specs.Page.{Puts};
 ghost use Rattle.refusals_search.specs.Given.{behind_case};
 ghost use Rattle.refusals_search.specs.Left.{results_left};
@@ -9,9 +9,9 @@ ghost use Rattle.refusals_search.specs.Texts.{results_text, rest_text};
 
 use cases::Cursor;
 use given::Call;
-use libc::STDOUT_FILENO;
 use refusals::Left;
 use rules::SearchAnswer;
+use std::io;
 
 mod given;
 
@@ -76,21 +76,23 @@ fn put_rest(
 }
 
 fn told(
+    rt: &impl Print,
     number: u32,
     answer: SearchAnswer,
     nodes: &[u32],
     bits: &[u32],
     words: &[u32],
     floats: &[f32],
-) {
+) -> io::Result<()> {
     let mut page: [u8; 2048] = [0; 2048];
     let case = pages::put_word(&mut page, 0, b"case ", number);
     let end = put_rest(&mut page, case, answer, nodes, bits, words, floats);
-    io::write_all(STDOUT_FILENO, pages::text(&page, end));
+    rt.write_all(pages::text(&page, end))
 }
 
 // The call on the slices it lends, and its line.
 fn called(
+    rt: &impl Print,
     number: u32,
     c: Call,
     lanes: &[f32],
@@ -101,7 +103,7 @@ fn called(
     bits: &mut [u32],
     words: &mut [u32],
     floats: &mut [f32],
-) {
+) -> io::Result<()> {
     refusals::fill_words(nodes, NODES);
     refusals::fill_words(bits, BITS);
     refusals::fill_scratch(words, floats);
@@ -119,11 +121,19 @@ fn called(
         words,
         floats,
     );
-    told(number, answer, nodes, bits, words, floats);
+    told(rt, number, answer, nodes, bits, words, floats)
 }
 
 // A call on what is given, on places of our own that are as long as it says.
-fn lend(number: u32, c: Call, lanes: &[f32], graph: &[u32], roots: &[u32], query: &[f32]) {
+fn lend(
+    rt: &impl Print,
+    number: u32,
+    c: Call,
+    lanes: &[f32],
+    graph: &[u32],
+    roots: &[u32],
+    query: &[f32],
+) -> io::Result<()> {
     let mut nodes: [u32; 65] = [0; 65];
     let mut bits: [u32; 65] = [0; 65];
     let mut words: [u32; 1284] = [0; 1284];
@@ -133,6 +143,7 @@ fn lend(number: u32, c: Call, lanes: &[f32], graph: &[u32], roots: &[u32], query
     let words_long = cases::least(c.words, words.len());
     let floats_long = cases::least(c.floats, floats.len());
     called(
+        rt,
         number,
         c,
         lanes,
@@ -143,12 +154,13 @@ fn lend(number: u32, c: Call, lanes: &[f32], graph: &[u32], roots: &[u32], query
         &mut bits[..bits_long],
         &mut words[..words_long],
         &mut floats[..floats_long],
-    );
+    )
 }
 
 // A case: its numbers, then what is lent to be read, each run after its length.
-fn one_case(text: &[u8], c: Cursor, number: u32) -> Cursor
-    ensures { result ≡ behind_case text.now c }
+#[tactic(auto, unfolding(crate::specs::Given::behind_case))]
+fn one_case(rt: &impl Print, text: &[u8], c: Cursor, number: u32) -> io::Result<Cursor>
+    ensures { IfOk result (λ behind. behind ≡ behind_case text.now c) }
 {
     let read = given::read_case(text, c);
     let mut lanes: [f32; 65] = [0.0; 65];
@@ -164,25 +176,26 @@ fn one_case(text: &[u8], c: Cursor, number: u32) -> Cursor
     let roots_long = r.value;
     let query_long = q.value;
     lend(
+        rt,
         number,
         read.call,
         &lanes[..lanes_long],
         &graph[..graph_long],
         &roots[..roots_long],
         &query[..query_long],
-    );
-    q.cursor
+    )?;
+    Ok(q.cursor)
 }
 
 // The last line: how many cases there were, and the reader's fault.
-fn say_end(passed: u32, c: Cursor) {
+fn say_end(rt: &impl Print, passed: u32, c: Cursor) -> io::Result<()> {
     let mut page: [u8; 64] = [0; 64];
     let end = refusals::put_end(&mut page, 0, passed, c);
-    io::write_all(STDOUT_FILENO, pages::text(&page, end));
+    rt.write_all(pages::text(&page, end))
 }
 
 // A proved loop has to end: it counts its turns down, from more cases than a list has.
-fn all_cases(text: &[u8]) {
+fn all_cases(rt: &impl Print, text: &[u8]) -> io::Result<()> {
     let mut turns: u32 = 65536;
     let mut passed: u32 = 0;
     let mut cursor = cases::start();
@@ -190,18 +203,18 @@ fn all_cases(text: &[u8]) {
         let case = replays::next_case(text, cursor, passed);
         let behind = case.cursor;
         if case.kind == 0 {
-            say_end(passed, behind);
-            return;
+            return say_end(rt, passed, behind);
         }
         passed = std::num::wrapping_add_u32(passed, 1);
-        let next = one_case(text, behind, passed);
+        let next = one_case(rt, text, behind, passed)?;
         cursor = next;
         turns -= 1;
     }
+    Ok(())
 }
 
-fn main() {
+fn main(rt: HostRuntime) -> io::Result<()> {
     let mut room = cases::room();
-    let n = io::read_full(0, &mut room);
-    all_cases(&room[..n]);
+    let n = inputs::read_full(&mut rt.reader(), &mut room)?;
+    all_cases(&rt, &room[..n])
 }

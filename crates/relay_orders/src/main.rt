@@ -1,8 +1,8 @@
 // Square I in three orders of its moves, and 44 orders of each of nine sets of jobs: every order of one set must end in the same lists.
 #![tactic(auto)]
 
-use libc::STDOUT_FILENO;
 use sets::Game;
+use std::io;
 use tally::{EMPTY, Lists, Outcome, Tally};
 
 mod order;
@@ -104,34 +104,35 @@ fn with_set(
     so_far
 }
 
-fn say_word(label: &[u8], word: u32) {
-    io::write_all(STDOUT_FILENO, label);
-    io::print_decimal(STDOUT_FILENO, word as u64);
+fn say_word(rt: &impl Print, label: &[u8], word: u32) -> io::Result<()> {
+    rt.write_all(label)?;
+    rt.print(word)
 }
 
-fn put_lists(nodes: &[u32], dists: &[f32]) {
+fn put_lists(rt: &impl Print, nodes: &[u32], dists: &[f32]) -> io::Result<()> {
     let mut i: usize = 0;
     while i < nodes.len() {
         if i >= dists.len() {
-            return;
+            return Ok(());
         }
-        say_word(b" ", nodes[i]);
-        say_word(b" at ", relays::bits_of(dists[i]));
+        say_word(rt, b" ", nodes[i])?;
+        say_word(rt, b" at ", relays::bits_of(dists[i]))?;
         i += 1;
     }
+    Ok(())
 }
 
 // The reports of three jobs.
-fn say_reports(reports: &[u32]) {
+fn say_reports(rt: &impl Print, reports: &[u32]) -> io::Result<()> {
     let mut page: [u8; 128] = [0; 128];
     let named = pages::put(&mut page, 0, b", reports");
     let listed = refusals::put_words(&mut page, named, reports, 6);
     let end = pages::put(&mut page, listed, b"\n");
-    io::write_all(STDOUT_FILENO, pages::text(&page, end));
+    rt.write_all(pages::text(&page, end))
 }
 
 // Square I in an order of its 24 moves: the lists, two entries a node, and the reports.
-fn square(name: &[u8], order: &[u32]) {
+fn square(rt: &impl Print, name: &[u8], order: &[u32]) -> io::Result<()> {
     let lanes = sets::square_lanes();
     let jobs = sets::square_jobs();
     let mut nodes: [u32; 8] = [4; 8];
@@ -147,25 +148,26 @@ fn square(name: &[u8], order: &[u32]) {
         &mut dists,
         &mut reports,
     );
-    io::write_all(STDOUT_FILENO, name);
-    put_lists(&nodes, &dists);
-    say_reports(&reports);
+    rt.write_all(name)?;
+    put_lists(rt, &nodes, &dists)?;
+    say_reports(rt, &reports)?;
     if refused != 0 {
-        say_word(b"refused: ", refused);
+        say_word(rt, b"refused: ", refused)?;
     }
+    Ok(())
 }
 
-fn squares() {
+fn squares(rt: &impl Print) -> io::Result<()> {
     let mut one: [u32; 24] = [0; 24];
     order::fill(&mut one, 0, 3);
-    square(b"I, one job at a time:", &one);
+    square(rt, b"I, one job at a time:", &one)?;
     let mut round: [u32; 24] = [0; 24];
     order::fill(&mut round, 1, 3);
-    square(b"I, a step of each in turn:", &round);
+    square(rt, b"I, a step of each in turn:", &round)?;
     let last = [
         0u32, 0, 0, 0, 0, 0, 0, 0, 2, 2, 2, 2, 2, 2, 2, 2, 1, 1, 1, 1, 1, 1, 1, 1,
     ];
-    square(b"I, the second job last:", &last);
+    square(rt, b"I, the second job last:", &last)
 }
 
 // One set more, on given lists.
@@ -212,12 +214,12 @@ fn all_sets() -> Tally {
     with_game(4, d)
 }
 
-fn main() {
-    squares();
+fn main(rt: HostRuntime) -> io::Result<()> {
+    squares(&rt)?;
     let t = all_sets();
-    say_word(b"sets: ", t.sets);
-    say_word(b"\norders: ", t.orders);
-    say_word(b"\nthat differ: ", t.differ);
-    say_word(b"\ncalls refused: ", t.refused);
-    io::write_all(STDOUT_FILENO, b"\n");
+    say_word(&rt, b"sets: ", t.sets)?;
+    say_word(&rt, b"\norders: ", t.orders)?;
+    say_word(&rt, b"\nthat differ: ", t.differ)?;
+    say_word(&rt, b"\ncalls refused: ", t.refused)?;
+    rt.write_all(b"\n")
 }

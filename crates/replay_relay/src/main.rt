@@ -2,9 +2,11 @@
 #![tactic(auto)]
 
 use cases::Cursor;
-use libc::STDOUT_FILENO;
 use rules::Answer;
 use shape::Shape;
+use std::env::Env;
+use std::fs::Files;
+use std::io;
 use tallies::{JUNK, Outcome, Tally};
 
 mod left;
@@ -260,37 +262,38 @@ fn one_case(text: &[u8], c: Cursor) -> Outcome {
 }
 
 // A proved loop has to end: it counts its turns down, from more cases than a list has.
-fn replayed(text: &[u8]) -> Tally {
+fn replayed(rt: &impl Print, text: &[u8]) -> io::Result<Tally> {
     let mut turns: u32 = 65536;
     let mut t = tallies::none();
     while turns > 0 {
         let case = replays::next_case(text, t.cursor, t.compared);
         let cursor = case.cursor;
         if case.kind != RELAY {
-            return tallies::ended(t, case.kind, cursor);
+            return Ok(tallies::ended(t, case.kind, cursor));
         }
         let o = one_case(text, cursor);
-        let next = tallies::with_case(t, o);
+        let next = tallies::with_case(rt, t, o)?;
         t = next;
         turns -= 1;
     }
-    t
+    Ok(t)
 }
 
 // A list that is read from standard input (0) or from the file that an argument names.
-fn replay(label: &[u8], i: usize) {
+fn replay(rt: &(impl Env + Files + Input + Print), label: &[u8], i: usize) -> io::Result<()> {
     let mut room = cases::room();
-    let n = tallies::read_list(i, &mut room);
-    let t = replayed(&room[..n]);
+    let n = tallies::read_list(rt, i, &mut room)?;
+    let t = replayed(rt, &room[..n])?;
     let mut page: [u8; 256] = [0; 256];
     let end = tallies::put_tally(&mut page, 0, label, t);
-    io::write_all(STDOUT_FILENO, pages::text(&page, end));
+    rt.write_all(pages::text(&page, end))
 }
 
 // The Rust's list has nothing that differs, so the lists that arguments name, wrong on purpose, show that what differs is said.
-fn main() {
-    replay(b"relays compared: ", 0);
-    for i in 1..os::arg_count() {
-        replay(b"relays of a list that is wrong on purpose: ", i);
+fn main(rt: HostRuntime) -> io::Result<()> {
+    replay(&rt, b"relays compared: ", 0)?;
+    for i in 1..inputs::arg_count(&rt) {
+        replay(&rt, b"relays of a list that is wrong on purpose: ", i)?;
     }
+    Ok(())
 }

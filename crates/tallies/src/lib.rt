@@ -1,13 +1,15 @@
 // What tests over files read, count and say: a list, how a case came out, and how many did.
 #![tactic(auto)]
 
-ghost use Rattle.std.specs.Prelude.{◌≡◌};
-ghost use Rattle.io.specs.Counts.{IsPrefixLen};
+ghost use Rattle.std.specs.Prelude.{◌≡◌, IfOk, IsOk};
+ghost use Rattle.std.specs.Io.{ReadsAtMost};
 ghost use Rattle.pages.specs.Page.{Puts};
 ghost use Rattle.tallies.specs.Tallies.{no_case, fresh_at, moved_to, joined, scratched, counted, closed, differs_text, tally_text};
 
 use cases::Cursor;
-use libc::STDOUT_FILENO;
+use std::env::Env;
+use std::fs::Files;
+use std::io;
 
 /// Everything is as the list says.
 pub const NOTHING: u32 = 0;
@@ -129,29 +131,31 @@ fn put_differs(page: &mut [u8], at: usize, differs: u32) -> usize
     pages::put(page, at, b" differs in other words\n")
 }
 
-fn say(case: u32, differs: u32) {
+fn say(rt: &impl Print, case: u32, differs: u32) -> io::Result<()> {
     let mut page: [u8; 64] = [0; 64];
     let number = pages::put_word(&mut page, 0, b"case ", case);
     let end = put_differs(&mut page, number, differs);
-    io::write_all(STDOUT_FILENO, pages::text(&page, end));
+    rt.write_all(pages::text(&page, end))
 }
 
-/// The tally with one case more. What differs is said at once.
-pub fn with_case(t: Tally, o: Outcome) -> Tally
-    ensures { result ≡ counted t o }
+/// The tally with one case more. What differs is said at once, which alone can fail.
+#[tactic(auto, unfolding(crate::specs::Tallies::counted))]
+pub fn with_case(rt: &impl Print, t: Tally, o: Outcome) -> io::Result<Tally>
+    ensures value { IfOk result (λ more. more ≡ counted t o) }
+    ensures unsaid { o.differs ≡ 0 → IsOk result }
 {
     let compared = std::num::wrapping_add_u32(t.compared, 1);
     let cursor = o.cursor;
     let mut differ = t.differ;
     if o.differs != NOTHING {
-        say(compared, o.differs);
+        say(rt, compared, o.differs)?;
         differ = std::num::wrapping_add_u32(differ, 1);
     }
-    Tally {
+    Ok(Tally {
         compared: compared,
         differ: differ,
         cursor: cursor,
-    }
+    })
 }
 
 /// Puts the tally on a page: what was compared, how many differ, and the numbers read with their sum.
@@ -181,28 +185,30 @@ pub fn ended(t: Tally, kind: u32, c: Cursor) -> Tally
     }
 }
 
-fn read_named(i: usize, room: &mut [u8]) -> usize
-    ensures { IsPrefixLen result room.new }
+fn read_named(rt: &(impl Env + Files + Print), i: usize, room: &mut [u8]) -> io::Result<usize>
+    ensures { ReadsAtMost result room.new }
 {
-    let mut path = io::buffer();
-    let n = os::arg(i, &mut path);
-    let fd = os::open_read(&path[..n]);
-    if fd < 0 {
-        io::write_all(STDOUT_FILENO, &path[..n]);
-        io::write_all(STDOUT_FILENO, b" cannot be read\n");
-        return 0;
-    }
-    let long = io::read_full(fd, room);
-    libc::close(fd);
-    long
+    let mut path = [0u8; 4096];
+    let n = inputs::arg(rt, i, &mut path);
+    let Ok(mut file) = inputs::open(rt, &path[..n]) else {
+        rt.write_all(&path[..n])?;
+        println!(rt; " cannot be read")?;
+        return Ok(0);
+    };
+    inputs::read_full(&mut file, room)
 }
 
-/// Reads a list to the front of the room, and answers its length: standard input for 0, and else the file that this argument names; one that cannot be read is said, and empty.
-pub fn read_list(i: usize, room: &mut [u8]) -> usize
-    ensures { IsPrefixLen result room.new }
+/// Reads a list to the front of the room, and answers its length: standard input for 0, and else the file that this argument names; one that cannot be opened is
+/// said, and empty. A read or a write that fails ends this with its error, and the room then holds what was read before.
+pub fn read_list(
+    rt: &(impl Env + Files + Input + Print),
+    i: usize,
+    room: &mut [u8],
+) -> io::Result<usize>
+    ensures { ReadsAtMost result room.new }
 {
     if i == 0 {
-        return io::read_full(0, room);
+        return inputs::read_full(&mut rt.reader(), room);
     }
-    read_named(i, room)
+    read_named(rt, i, room)
 }

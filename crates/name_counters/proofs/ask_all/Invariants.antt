@@ -1,9 +1,5 @@
--- `name_counters::ask_all` is safe and ends. Assumes nothing.
 use Rattle.std.proofs.Common.{◌-◌}
 use Rattle.name_counters.proofs.ask_all.Given as goal
 
-abbrev pub invariant-loop-i : goal.invariant-loop-i
-invariant-loop-i l = Unit {0}
-
 abbrev pub decreases-loop-i : goal.decreases-loop-i
-decreases-loop-i l = l.g.asked - l.i
+decreases-loop-i g l = l.g.asked - l.i

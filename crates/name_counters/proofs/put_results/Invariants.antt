@@ -1,9 +1,5 @@
--- `name_counters::put_results` is safe and ends. Assumes nothing.
 use Rattle.std.proofs.Common.{◌-◌}
 use Rattle.name_counters.proofs.put_results.Given as goal
 
-abbrev pub invariant-loop-i : goal.invariant-loop-i
-invariant-loop-i l = Unit {0}
-
 abbrev pub decreases-loop-i : goal.decreases-loop-i
-decreases-loop-i l = l.m - l.i
+decreases-loop-i g l = l.m - l.i

@@ -1,8 +1,4 @@
--- `refusals_open::all_cases` is safe and ends. Assumes nothing.
 use Rattle.refusals_open.proofs.all_cases.Given as goal
 
-abbrev pub invariant-loop-turns : goal.invariant-loop-turns
-invariant-loop-turns l = Unit {0}
-
 abbrev pub decreases-loop-turns : goal.decreases-loop-turns
-decreases-loop-turns l = l.turns
+decreases-loop-turns g l = l.turns

@@ -1,9 +1,0 @@
--- `lists_read::main` is safe and ends. Assumes nothing.
-use Rattle.std.proofs.Common.{◌-◌}
-use Rattle.lists_read.proofs.main.Given as goal
-
-abbrev pub invariant-loop-i : goal.invariant-loop-i
-invariant-loop-i l = Unit {0}
-
-abbrev pub decreases-loop-i : goal.decreases-loop-i
-decreases-loop-i l = l.count - l.i

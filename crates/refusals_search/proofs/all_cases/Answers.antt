@@ -1,8 +1,0 @@
--- What the search leaves of `refusals_search::all_cases`.
-use Rattle.refusals_search.proofs.all_cases.Goals as goal
-
-pub loop-turns-init : goal.loop-turns-init
-loop-turns-init c = tt
-
-pub loop-turns-preserved : goal.loop-turns-preserved
-loop-turns-preserved c = tt

@@ -1,8 +1,0 @@
--- What the search leaves of `replay_build::replayed`.
-use Rattle.replay_build.proofs.replayed.Goals as goal
-
-pub loop-turns-init : goal.loop-turns-init
-loop-turns-init c = tt
-
-pub loop-turns-preserved : goal.loop-turns-preserved
-loop-turns-preserved c = tt
