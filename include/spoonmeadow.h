@@ -1,4 +1,4 @@
-/* Spoonmeadow for C: the entries of libspoonmeadow.a (`rt staticlib spoonmeadow`), each proved equal to the rulebook.
+/* Spoonmeadow for C: the entries of libspoonmeadow.a (`rt lib` in crates/spoonmeadow), each proved equal to the rulebook.
 
    Nothing is kept between calls, nothing is allocated, and no call blocks or starts a thread. Everything is lent:
 

@@ -1,6 +1,6 @@
 """Computes the rulebook on the oracle's small cases and holds each value to the Rust's.
 
-Each case of lists/small.txt becomes a statement about the definitions of crates/rules/specs, proved by computation alone.
+Each case of small.txt becomes a statement about the definitions of crates/rules/specs, proved by computation alone.
 The crate is copied to a temporary folder, the statements are added there, and `rt check` must accept it.
 """
 import os
@@ -42,7 +42,7 @@ def unfoldables():
     for module in modules():
         text = text_of(RULES, "specs", module + ".antt")
         names += [f"{module}.{name}" for name in re.findall(r"^\s*unfoldable pub (\S+) :", text, re.M)]
-    floats = ["ofBits", "toBits", "add", "sub", "mul", "div", "lt", "le", "eq"]
+    floats = ["of_bits", "to_bits", "add", "sub", "mul", "div", "lt", "le", "eq"]
     return names + ["lib.Ieee." + name for name in floats]
 
 
@@ -60,7 +60,7 @@ def write(w, folder):
     unfolding = "unfolding " + " ".join(unfoldables())
     # The rulebook's modules are used behind the first part of computed.txt, which ends at an empty line.
     head, helpers = text_of(HERE, "computed.txt").split("\n\n", 1)
-    uses = "".join(f"use Rattle·rules·specs.specs.{m} as {m}\n" for m in modules())
+    uses = "".join(f"use Rattle.rules.specs.{m} as {m}\n" for m in modules())
     lines = [f"{head}\n{uses}\n{helpers}"]
     for name, left, right in w.out:
         lines.append(f"{name} : {left} ≡ {right}\n{unfolding}\n{name} = refl\n")
@@ -71,16 +71,23 @@ def write(w, folder):
 
 def checked(w):
     with tempfile.TemporaryDirectory() as top:
-        folder = os.path.join(top, "rules")
+        folder = os.path.join(top, "crates", "rules")
         os.makedirs(folder)
+        open(os.path.join(top, "crates.txt"), "w").write("rules:\n")
         for part in ("src", "specs"):
             shutil.copytree(os.path.join(RULES, part), os.path.join(folder, part))
         write(w, folder)
-        return subprocess.run(["rt", "check", folder], capture_output=True, text=True, cwd=top)
+        return subprocess.run(["rt", "check"], capture_output=True, text=True, cwd=folder)
+
+
+def list_of(name):
+    """Where a list of that name is kept, or the file of that name."""
+    kept = dict(line.split() for line in text_of(ROOT, "oracle", "lists").splitlines() if not line.startswith("#"))
+    return os.path.join(ROOT, kept[name]) if name in kept else name
 
 
 def main():
-    w = stated(sys.argv[1] if len(sys.argv) > 1 else os.path.join(ROOT, "oracle", "lists", "small.txt"))
+    w = stated(list_of(sys.argv[1] if len(sys.argv) > 1 else "small.txt"))
     done = checked(w)
     text = done.stdout + done.stderr
     wrong = [line for line in text.splitlines() if "error" in line]

@@ -59,7 +59,7 @@ def hold_opened(c, w, calls):
     w.same(c.name + "-opened", f"Relay.opened (Distance.between {floats(c.lanes)} {c.dimension}) {listing(c.lists)} {flat}", now)
     if calls:
         both = f"{nats(c.nodes)} {floats(c.bits)} {flat} (replicate {n * (k + 65) + 1024} 7) (replicate {n * (k + 64) + 64} ({flo(0)}))"
-        call = f"(RelayCall.openRule (opening {c.dimension} {n} {floats(c.lanes)} {k} {both} {512 * n + 4096}))"
+        call = f"(RelayCall.open_rule (opening {c.dimension} {n} {floats(c.lanes)} {k} {both} {512 * n + 4096}))"
         hold_state(w, c.name + "-open-call", k, call, now)
 
 
@@ -67,34 +67,34 @@ def hold_moves(c, w, calls):
     n, k, now = c.n, c.k, c.state()
     for at, (i, after) in enumerate(zip(c.moves, c.touched)):
         if at % 8 == 3:
-            w.same(f"{c.name}-{at}-formed", f"RelayPlaces.relayFormed {n} {k} {encoded(k, now)}", "true")
+            w.same(f"{c.name}-{at}-formed", f"RelayPlaces.relay_formed {n} {k} {encoded(k, now)}", "true")
         c.move(i, after)
         before, now = now, c.state()
         w.same(f"{c.name}-{at}", f"Relay.moved {k} {before} {i}", now)
         if calls and at % 6 == 1:
-            hold_state(w, f"{c.name}-{at}-call", k, f"(RelayCall.moveRule (moving {n} {k} {i} {encoded(k, before)}))", now)
+            hold_state(w, f"{c.name}-{at}-call", k, f"(RelayCall.move_rule (moving {n} {k} {i} {encoded(k, before)}))", now)
 
 
 def hold_closed(c, w, calls):
     n, k, now = c.n, c.k, c.state()
-    w.same(c.name + "-lists", f"{now} .lists", c.final)
-    w.same(c.name + "-reports", f"Relay.reportsOf ({now} .jobs)", nats(c.reports))
+    w.same(c.name + "-lists", f"{now}.lists", c.final)
+    w.same(c.name + "-reports", f"Relay.reports_of ({now}.jobs)", nats(c.reports))
     if calls:
-        call = f"(RelayCall.closeRule (closing {n} {k} {encoded(k, now)}))"
-        w.same(c.name + "-close-said", f"{call} .said ∷ []", "Refusals.noRefusal ∷ []")
-        w.same(c.name + "-close-nodes", f"{call} .nodes", f"Places.listWords {c.final}")
-        w.same(c.name + "-close-floats", f"{call} .distances", f"Places.listFloats {c.final}")
-        w.same(c.name + "-close-reports", f"take {len(c.reports)} ({call} .reports)", nats(c.reports))
+        call = f"(RelayCall.close_rule (closing {n} {k} {encoded(k, now)}))"
+        w.same(c.name + "-close-said", f"{call}.said ∷ []", "Refusals.no_refusal ∷ []")
+        w.same(c.name + "-close-nodes", f"{call}.nodes", f"Places.list_words {c.final}")
+        w.same(c.name + "-close-floats", f"{call}.distances", f"Places.list_floats {c.final}")
+        w.same(c.name + "-close-reports", f"take {len(c.reports)} ({call}.reports)", nats(c.reports))
 
 
 def encoded(k, state):
-    return f"(RelayPlaces.relayState {k} {state}) (RelayPlaces.relayStateFloats {k} {state})"
+    return f"(RelayPlaces.relay_state {k} {state}) (RelayPlaces.relay_state_floats {k} {state})"
 
 
 def hold_state(w, name, k, call, after):
-    w.same(name + "-said", f"{call} .said ∷ []", "Refusals.noRefusal ∷ []")
-    w.same(name + "-words", f"{call} .state-u", f"RelayPlaces.relayState {k} {after}")
-    w.same(name + "-floats", f"{call} .state-f", f"RelayPlaces.relayStateFloats {k} {after}")
+    w.same(name + "-said", f"{call}.said ∷ []", "Refusals.no_refusal ∷ []")
+    w.same(name + "-words", f"{call}.state_u", f"RelayPlaces.relay_state {k} {after}")
+    w.same(name + "-floats", f"{call}.state_f", f"RelayPlaces.relay_state_floats {k} {after}")
 
 
 def single(x):

@@ -36,7 +36,7 @@ def bodies(text):
         at = close_of(text, m.end() - 1, "(", ")")
         signature = text[m.end():at - 1]
         while True:
-            contract = re.compile(r"\s*(?:-> [^\n{]*?)?\s*(requires|ensures|decreases)\s*\{").match(text, at)
+            contract = re.compile(r"\s*(?:-> [^\n{]*?)?\s*(requires|ensures|decreases)\*?(?: \w+)?\s*\{").match(text, at)
             if not contract:
                 break
             at = close_of(text, contract.end() - 1, "{", "}")
