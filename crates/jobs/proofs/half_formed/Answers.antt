@@ -13,7 +13,7 @@ use Rattle.jobs.proofs.half_formed.Goals as goal
 -- no report where the nodes are equal
 free : (c : Joined-equal) → (c.args.equal && eqb c.args.taken 1) ≡ false
 free c =
-    elim c.if-equal.branch [ then-equal w ↦ rw (ne_eqb c.args.taken 1 w.1.left) (and-false c.args.equal) | else-equal w ↦ rw w.left ]
+    elim c.if-equal.branch [ then-equal w ↦ rw (ne_eqb c.args.taken 1 w.if-taken-eq1.false) (and-false c.args.equal) | else-equal w ↦ rw w.if-equal.false ]
 
 pub returns-then-taken-ne0 : goal.returns-then-taken-ne0
 returns-then-taken-ne0 c =

@@ -20,7 +20,7 @@ pub loop-t-preserved : goal.loop-t-preserved
 loop-t-preserved c =
     let p : ℕ → Bool = λ (u : ℕ). fit (get_or c.args.totals u nan) in
     let t = c.loop-t.t in
-    (search rules, elim c.if-not-is_fit.branch [ then-not-is_fit w ↦ w.1 ∙ sym (all-not p (t + 1) t (omega arith) (sym c.is_fit.ensures ∙ not-true _ w.0.taken)) | else-not-is_fit w ↦ w.1 ∙ c.loop-t.invariant.1 ∙ all-passed p t (sym c.is_fit.ensures ∙ not-not _ w.0.left) ])
+    (search rules, elim c.if-not-is_fit.branch [ then-not-is_fit w ↦ w.all-is ∙ sym (all-not p (t + 1) t (omega arith) (sym c.is_fit.ensures ∙ w.if-not-is_fit.true)) | else-not-is_fit w ↦ w.all-is ∙ c.loop-t.invariant.1 ∙ all-passed p t (sym c.is_fit.ensures ∙ w.if-not-is_fit.false) ])
 
 pub returns : goal.returns
 returns c = let eight : c.loop-t.t ≡ 8 = search rules in c.loop-t.invariant.1 ∙ rw eight

@@ -15,7 +15,7 @@ use Rattle.links.proofs.link.Goals as goal
 within : (start : Start) → slot_read start.args.index_size start.args.v.0 start.args.i < start.args.n * start.args.index_size
 within start = slot_within start.requires.lanes_len.1 start.requires.lanes_len.2
 
-abbrev stands : Start → ℕ → Neighbor
+abbrev stands : After-entry_in-e → ℕ → Neighbor
 stands start s = get_or (entries (start.args.n * start.args.index_size) start.args.nodes.now start.args.dists.now) s (empty_slot 0)
 
 read : (c : After-entry_in-e) → c.entry_in-e.result ≡ stands c (slot_read c.args.index_size c.args.v.0 c.args.i)

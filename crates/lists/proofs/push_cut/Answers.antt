@@ -20,6 +20,6 @@ overflow_add-result c = elim c.if-k-len.branch [ then-k-len w ↦ search rules |
 
 pub returns : goal.returns
 returns c =
-    let last : c.if-k-len.new ≡ min c.args.len (c.args.k - 1) = elim c.if-k-len.branch [ then-k-len w ↦ omega arith | else-k-len w ↦ omega arith ] in
+    let last : c.if-k-len.last ≡ min c.args.len (c.args.k - 1) = elim c.if-k-len.branch [ then-k-len w ↦ omega arith | else-k-len w ↦ omega arith ] in
     pushed_cut c.requires.0 c.requires.1 c.requires.2 c.place_of-p.ensures _ _ _ c.if-k-p.false last
     c.shift_up.ensures.nodes_after c.shift_up.ensures.dists_after

@@ -10,4 +10,4 @@ returns c =
     let two = c.put.ensures in
     let one = c.put-place.ensures in
     let dec = c.decimal-long.ensures in
-    puts_both one (puts_text ((dec.digits, dec.rest) ∙ fewest-decimal (search rules) dec.len) two)
+    puts_both one (puts_text (dec.digits ∙ fewest-decimal (search rules) dec.len) two)

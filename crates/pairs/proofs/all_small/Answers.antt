@@ -21,7 +21,7 @@ loop-i-preserved c =
     let lanes = c.args.lanes.now in
     let p : ℕ → Bool = λ (j : ℕ). within 30 (get_or lanes j nan) in
     let i = c.loop-i.i in
-    (search rules, elim c.if-not-is_small.branch [ then-not-is_small w ↦ w.1 ∙ sym (all-not p (i + 1) i (omega arith) (sym c.is_small.ensures ∙ not-true _ w.0.taken)) | else-not-is_small w ↦ w.1 ∙ c.loop-i.invariant.1 ∙ all-passed p i (sym c.is_small.ensures ∙ not-not _ w.0.left) ])
+    (search rules, elim c.if-not-is_small.branch [ then-not-is_small w ↦ w.all-is ∙ sym (all-not p (i + 1) i (omega arith) (sym c.is_small.ensures ∙ w.if-not-is_small.true)) | else-not-is_small w ↦ w.all-is ∙ c.loop-i.invariant.1 ∙ all-passed p i (sym c.is_small.ensures ∙ w.if-not-is_small.false) ])
 
 pub returns : goal.returns
 unfolding all_within

@@ -8,4 +8,4 @@ pub returns-then-np-nr : goal.returns-then-np-nr
 returns-then-np-nr c = occludes_equal _ _ _ _ _ c.if-equal_too.true c.if-np-nr.true
 
 pub returns : goal.returns
-returns c = c.occludes.ensures ∙ elim c.if-equal_too.branch [ then-equal_too w ↦ occludes-other _ _ _ _ _ w.3.left | else-equal_too w ↦ occludes_plain _ _ _ _ _ w.left ]
+returns c = c.occludes.ensures ∙ elim c.if-equal_too.branch [ then-equal_too w ↦ occludes-other _ _ _ _ _ w.if-np-nr.false | else-equal_too w ↦ occludes_plain _ _ _ _ _ w.if-equal_too.false ]
