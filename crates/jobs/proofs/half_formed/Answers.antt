@@ -7,13 +7,13 @@ use lib.Dec.{eqb}
 use Rattle.rules.proofs.Tests.{and-false}
 use Rattle.jobs.specs.Jobs.{half_formed}
 use Rattle.jobs.proofs.Halves.{half_fresh, half_early, half_flag, half_equal, half_looked, half_measured}
-use Rattle.jobs.proofs.half_formed.Goals.{Joined-equal, else-equal, then-equal}
+use Rattle.jobs.proofs.half_formed.Goals.{Joined-equal, else-equal, then-equal+else-taken-eq1}
 use Rattle.jobs.proofs.half_formed.Goals as goal
 
 -- no report where the nodes are equal
 free : (c : Joined-equal) → (c.args.equal && eqb c.args.taken 1) ≡ false
 free c =
-    elim c.if-equal.branch [ then-equal w ↦ rw (ne_eqb c.args.taken 1 w.if-taken-eq1.false) (and-false c.args.equal) | else-equal w ↦ rw w.if-equal.false ]
+    elim c.if-equal.branch [ then-equal+else-taken-eq1 w ↦ rw (ne_eqb c.args.taken 1 w.if-taken-eq1.false) (and-false c.args.equal) | else-equal w ↦ rw w.if-equal.false ]
 
 pub returns-then-taken-ne0 : goal.returns-then-taken-ne0
 returns-then-taken-ne0 c =

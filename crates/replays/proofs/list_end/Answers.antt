@@ -11,12 +11,10 @@ use Rattle.replays.specs.Next.{unexpected, closed}
 use Rattle.replays.proofs.list_end.Goals as goal
 
 -- what stands next is no end
-others : (c : Cursor) (t : Token) → OneOf (0 ∷ 2 ∷ 3 ∷ []) (tag_of the_type t) → unexpected c ≡ closed c t
+others : (c : Cursor) (t : Token) → ((d : Cursor) → t ≡ End d → ⊥) → unexpected c ≡ closed c t
 unfolding closed
 others c (Number x d) h = refl
-others c (End d) (inl e) = absurd (let no : ⊥ = omega (arith, e) in no)
-others c (End d) (inr (inl e)) = absurd (let no : ⊥ = omega (arith, e) in no)
-others c (End d) (inr (inr e)) = absurd (let no : ⊥ = omega (arith, e) in no)
+others c (End d) h = absurd (h d refl)
 others c (TooLarge at) h = refl
 others c (Strange at) h = refl
 
@@ -30,4 +28,4 @@ returns-in-End c =
 
 pub returns-in_default : goal.returns-in_default
 returns-in_default c =
-    c.unexpected-in_default.ensures ∙ others _ c.next_number-t.result c.in_default.in_default-own.keys2 ∙ ap (closed _) c.next_number-t.ensures ∙ end-closed _ _ _ c.read_word-total.result c.read_word-total.ensures c.if-total-passed.false
+    c.unexpected-in_default.ensures ∙ others _ c.next_number-t.result c.in_default.not-End ∙ ap (closed _) c.next_number-t.ensures ∙ end-closed _ _ _ c.read_word-total.result c.read_word-total.ensures c.if-total-passed.false

@@ -7,25 +7,24 @@ use Rattle.exact.proofs.Laws.{listed_same}
 use Rattle.taught.specs.Taught.{eight_in}
 use Rattle.taught.proofs.Laws.{Where, where_is, ranged_none, teaching_more}
 use borrow.Author.Rules.{rules}
-use Rattle.taught.proofs.lists_of.Goals.{In-loop-p}
 use Rattle.taught.proofs.lists_of.Goals as goal
-
--- where the list that is written lies
-top : (c : In-loop-p) → Where c.args.n c.args.init_k c.loop-p.p (length c.loop-p.lists)
-top c =
-    let p = c.requires in
-    let long = c.loop-p.invariant.2.ranged.long in
-    let fits = p.le_init_k.2 in
-    where_is _ _ _ _ (search rules) p.holds_eight.1 p.le_init_k.1 (omega arith)
 
 pub loop-p-init : goal.loop-p-init
 loop-p-init c = (search rules, search rules, record { ranged = ranged_none _ _ _ _ _; row_long = refl; nodes_long = refl; dists_long = refl })
 
 pub overflow_mul-start : goal.overflow_mul-start
-overflow_mul-start c = let b = top c in omega arith
+overflow_mul-start c =
+    let pre = c.requires in
+    let long = c.loop-p.invariant.2.ranged.long in
+    let b = where_is c.args.n c.args.init_k c.loop-p.p (length c.loop-p.lists) (omega arith) pre.holds_eight.1 pre.le_init_k.1 (omega arith) in
+    omega arith
 
 pub overflow_add-behind : goal.overflow_add-behind
-overflow_add-behind c = let b = top c in omega arith
+overflow_add-behind c =
+    let pre = c.requires in
+    let long = c.loop-p.invariant.2.ranged.long in
+    let b = where_is c.args.n c.args.init_k c.loop-p.p (length c.loop-p.lists) (omega arith) pre.holds_eight.1 pre.le_init_k.1 (omega arith) in
+    omega arith
 
 pub slice_bounds-list_of-end : goal.slice_bounds-list_of-end
 slice_bounds-list_of-end c = sym c.loop-p.invariant.2.nodes_long
@@ -34,20 +33,38 @@ pub slice_bounds-list_of-end-in-loop-p : goal.slice_bounds-list_of-end-in-loop-p
 slice_bounds-list_of-end-in-loop-p c = sym c.loop-p.invariant.2.dists_long
 
 pub offset_bounds-lists-start : goal.offset_bounds-lists-start
-offset_bounds-lists-start c = let b = top (goal.at.offset_bounds-lists-start c).In-loop-p in omega arith
+offset_bounds-lists-start c =
+    let pre = c.requires in
+    let long = c.loop-p.invariant.2.ranged.long in
+    let b = where_is c.args.n c.args.init_k c.loop-p.p (length c.loop-p.lists) (omega arith) pre.holds_eight.1 pre.le_init_k.1 (omega arith) in
+    omega arith
 
 pub slice_bounds-list_of-count : goal.slice_bounds-list_of-count
-slice_bounds-list_of-count c = let b = top (goal.at.slice_bounds-list_of-count c).In-loop-p in omega arith
+slice_bounds-list_of-count c =
+    let pre = c.requires in
+    let long = c.loop-p.invariant.2.ranged.long in
+    let b = where_is c.args.n c.args.init_k c.loop-p.p (length c.loop-p.lists) (omega arith) pre.holds_eight.1 pre.le_init_k.1 (omega arith) in
+    omega arith
 
 pub slice_bounds-list_of-start : goal.slice_bounds-list_of-start
-slice_bounds-list_of-start c = let b = top (goal.at.slice_bounds-list_of-start c).In-loop-p in omega arith
+slice_bounds-list_of-start c =
+    let pre = c.requires in
+    let long = c.loop-p.invariant.2.ranged.long in
+    let b = where_is c.args.n c.args.init_k c.loop-p.p (length c.loop-p.lists) (omega arith) pre.holds_eight.1 pre.le_init_k.1 (omega arith) in
+    omega arith
 
 pub slice_bounds-list_of-end-in-loop-p-2 : goal.slice_bounds-list_of-end-in-loop-p-2
-slice_bounds-list_of-end-in-loop-p-2 c = let b = top (goal.at.slice_bounds-list_of-end-in-loop-p-2 c).In-loop-p in omega arith
+slice_bounds-list_of-end-in-loop-p-2 c =
+    let pre = c.requires in
+    let long = c.loop-p.invariant.2.ranged.long in
+    let b = where_is c.args.n c.args.init_k c.loop-p.p (length c.loop-p.lists) (omega arith) pre.holds_eight.1 pre.le_init_k.1 (omega arith) in
+    omega arith
 
 pub list_of-requires : goal.list_of-requires
 list_of-requires c =
-    let b = top (goal.at.list_of-requires c).In-loop-p in
+    let pre = c.requires in
+    let long = c.loop-p.invariant.2.ranged.long in
+    let b = where_is c.args.n c.args.init_k c.loop-p.p (length c.loop-p.lists) (omega arith) pre.holds_eight.1 pre.le_init_k.1 (omega arith) in
     let inside = b.inside in
     let inv = c.loop-p.invariant.2 in
     let nodes = inv.nodes_long in

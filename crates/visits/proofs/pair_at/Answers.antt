@@ -1,11 +1,10 @@
 -- `visits::pair_at` meets its contract. Assumes nothing.
 use native.Mathlib.Omega.{arith}
 use Rattle.visits.proofs.Laws.{Square, square, pair_place}
-use Rattle.visits.proofs.pair_at.Reads as reads
 use Rattle.visits.proofs.pair_at.Goals.{Start}
 use Rattle.visits.proofs.pair_at.Goals as goal
 
-top : (c : lts.Start reads.Pre reads.Post) → Square c.args.n c.args.i.0 c.args.j.0
+top : (c : Start) → Square c.args.n c.args.i.0 c.args.j.0
 top c = square _ _ _ c.requires.0 c.requires.1 c.requires.2
 
 pub overflow_mul-result : goal.overflow_mul-result
