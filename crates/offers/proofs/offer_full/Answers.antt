@@ -8,9 +8,9 @@ pub choose-kept-requires : goal.choose-kept-requires
 choose-kept-requires c =
     let pre = c.requires in
     record {
-        lanes_len = (pre.lanes_len.0, pool_below c.args.w c.args.nodes.now c.args.dists.now c.args.offer c.gather.ensures c.args.n pre.lanes_len.2 pre.lanes_len.1);
-        len_in_bounds = search rules;
-        index_size_in_bounds = search rules;
+      lanes_len = (pre.lanes_len.0, pool_below c.args.w c.args.nodes.now c.args.dists.now c.args.offer c.gather.ensures c.args.n pre.lanes_len.2 pre.lanes_len.1);
+      len_in_bounds = search rules;
+      index_size_in_bounds = search rules;
     }
 
 pub returns-then-w-kept : goal.returns-then-w-kept
