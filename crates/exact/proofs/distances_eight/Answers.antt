@@ -1,6 +1,6 @@
 -- What the search leaves of `exact::distances_eight`.
 use mathlib.Core.Path.{refl, ◌∙◌}
-use Prim.Native.Nat.{ℕ, ◌-◌}
+use Prim.Native.Nat.{ℕ}
 use native.Mathlib.Omega.{arith}
 use Rattle.metrics.proofs.Steps.{room}
 use Rattle.exact.proofs.Eights.{eight_more}

@@ -1,6 +1,6 @@
 -- What the search leaves of `exact::gather`.
 use mathlib.Core.Path.{◌≡◌, refl}
-use Prim.Native.Nat.{◌*◌, ◌+◌, ◌<◌, ◌-◌}
+use Prim.Native.Nat.{◌*◌, ◌+◌, ◌<◌}
 use native.Mathlib.Omega.{arith}
 use lib.ListN.{length}
 use Rattle.exact.specs.Exact.{apart_in}

@@ -1,6 +1,5 @@
 -- What the search leaves of `exact::put_eight`.
 use mathlib.Core.Path.{◌≡◌}
-use Prim.Native.Nat.{◌-◌}
 use native.Mathlib.Omega.{arith}
 use Rattle.exact.proofs.Eights.{put_none, put-more}
 use borrow.Author.Rules.{rules}

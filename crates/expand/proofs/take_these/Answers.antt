@@ -1,5 +1,4 @@
 -- What the search leaves of `expand::take_these`.
-use Prim.Native.Nat.{◌-◌}
 use Rattle.expand.proofs.Areas.{room-kept}
 use Rattle.expand.proofs.Steps.{taking_none, taking_stop, taking-more, taking-end}
 use borrow.Author.Rules.{rules}

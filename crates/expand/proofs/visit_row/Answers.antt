@@ -1,5 +1,4 @@
 -- What the search leaves of `expand::visit_row`.
-use Prim.Native.Nat.{◌-◌}
 use native.Mathlib.Omega.{arith}
 use Rattle.expand.proofs.Areas.{room-kept}
 use Rattle.expand.proofs.Steps.{visiting_none, visiting_end, visiting_stop, visiting_more, visiting_unfit}

@@ -1,5 +1,4 @@
 -- What the search leaves of `hops::member_hops`.
-use Prim.Native.Nat.{◌-◌}
 use native.Mathlib.Omega.{arith}
 use Rattle.hops.specs.Hops.{list_of}
 use Rattle.hops.proofs.Laws.{walked_none, walked_turn, walked_end, walked_full, from-room, length-list, get_d_list, member_below}

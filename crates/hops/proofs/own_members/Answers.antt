@@ -1,6 +1,5 @@
 -- What the search leaves of `hops::own_members`.
 use mathlib.Core.Path.{refl}
-use Prim.Native.Nat.{◌-◌}
 use native.Mathlib.Omega.{arith}
 use Rattle.hops.specs.Hops.{list_of}
 use Rattle.hops.proofs.Laws.{took_as, walked_none, walked_turn, walked_end, from-room, length-list, get_d_list, member_below}

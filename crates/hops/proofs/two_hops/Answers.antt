@@ -1,5 +1,4 @@
 -- What the search leaves of `hops::two_hops`.
-use Prim.Native.Nat.{◌-◌}
 use native.Mathlib.Omega.{arith}
 use Rattle.rules.specs.Build.{two_hops}
 use Rattle.hops.specs.Hops.{list_of}

@@ -1,5 +1,4 @@
 -- What the search leaves of `links::link_node`.
-use Prim.Native.Nat.{◌-◌}
 use Rattle.rules.specs.Distance.{between}
 use Rattle.links.proofs.Slots.{turning_none, turning_room, turning_turn, links_of_lem}
 use borrow.Author.Rules.{rules}

@@ -7,7 +7,11 @@ use Rattle.offers.proofs.offer_full.Goals as goal
 pub choose-kept-requires : goal.choose-kept-requires
 choose-kept-requires c =
     let pre = c.requires in
-    let both = ((pre.lanes_len.0, pool_below c.args.w c.args.nodes.now c.args.dists.now c.args.offer c.gather.ensures c.args.n pre.lanes_len.2 pre.lanes_len.1), search rules) in record { lanes_len = both.0; len_in_bounds = both.1.0; index_size_in_bounds = both.1.1 }
+    record {
+      lanes_len = (pre.lanes_len.0, pool_below c.args.w c.args.nodes.now c.args.dists.now c.args.offer c.gather.ensures c.args.n pre.lanes_len.2 pre.lanes_len.1);
+      len_in_bounds = search rules;
+      index_size_in_bounds = search rules;
+    }
 
 pub returns-then-w-kept : goal.returns-then-w-kept
 returns-then-w-kept c =

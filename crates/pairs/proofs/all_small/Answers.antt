@@ -1,13 +1,12 @@
 -- What the search leaves of `all_small`.
 use mathlib.Core.Path.{◌≡◌, sym, ◌∙◌}
 use mathlib.Core.Bool.{Bool}
-use Prim.Native.Nat.{ℕ, ◌+◌, ◌-◌}
+use Prim.Native.Nat.{ℕ, ◌+◌}
 use native.Mathlib.Omega.{arith}
-use borrow.Author.Tests.{not-true}
 use lib.ListN.{length, get_or}
 use lib.Ieee.{nan}
 use Rattle.zeros.proofs.Laws.{all_none, all-not}
-use Rattle.kernels.proofs.Laws.{not-not, all-passed}
+use Rattle.kernels.proofs.Laws.{all-passed}
 use Rattle.pairs.specs.Within.{within, all_within}
 use borrow.Author.Rules.{rules}
 use Rattle.pairs.proofs.all_small.Goals.{else-not-is_small, then-not-is_small}

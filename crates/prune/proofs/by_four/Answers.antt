@@ -1,6 +1,5 @@
 -- What the search leaves of `prune::by_four`.
 use mathlib.Core.Path.{refl, sym, ◌∙◌}
-use Prim.Native.Nat.{◌-◌}
 use lib.Ieee.{nan}
 use Rattle.prune.proofs.Laws.{any_entry-end}
 use borrow.Author.Rules.{rules}

@@ -1,5 +1,4 @@
 -- What the search leaves of `prune::choose`.
-use Prim.Native.Nat.{◌-◌}
 use lib.Ieee.{nan}
 use Rattle.prune.proofs.Laws.{below-entry, choosing_none, choosing_turn, choosing_full, choosing_end}
 use borrow.Author.Rules.{rules}

@@ -1,6 +1,5 @@
 -- What the search leaves of `prune::one_by_one`.
 use mathlib.Core.Path.{refl, sym, ◌∙◌}
-use Prim.Native.Nat.{◌-◌}
 use lib.Ieee.{nan}
 use Rattle.metrics.proofs.Steps.{room}
 use Rattle.prune.proofs.Laws.{stood, below-entry, below-is, any_entry-here, any_entry_turn, any_entry-end}

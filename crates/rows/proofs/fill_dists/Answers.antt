@@ -1,5 +1,4 @@
 -- What the search leaves of `rows::fill_dists`.
-use Prim.Native.Nat.{◌-◌}
 use native.Mathlib.Omega.{arith}
 use Rattle.rows.proofs.Laws.{filling_none, filling_turn, filling_end}
 use borrow.Author.Rules.{rules}

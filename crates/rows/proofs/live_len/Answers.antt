@@ -1,5 +1,4 @@
 -- What the search leaves of `rows::live_len`.
-use Prim.Native.Nat.{◌-◌}
 use lib.Ieee.{nan}
 use Rattle.rules.specs.Rows.{is_empty}
 use Rattle.rows.proofs.Laws.{living_none, living_here, living_turn, living_end}

@@ -1,6 +1,6 @@
 -- What the search leaves of `taught::eight_by_eight`.
 use mathlib.Core.Path.{refl}
-use Prim.Native.Nat.{ℕ, ◌-◌}
+use Prim.Native.Nat.{ℕ}
 use native.Mathlib.Omega.{arith}
 use Rattle.rules.specs.Distance.{between}
 use Rattle.exact.proofs.Eights.{holds_eight}

@@ -5,7 +5,7 @@ use native.Mathlib.Omega.{arith}
 use lib.ListN.{length, length-take, length-drop}
 use Rattle.exact.proofs.Laws.{listed_same}
 use Rattle.taught.specs.Taught.{eight_in}
-use Rattle.taught.proofs.Laws.{Where, where_is, ranged_none, teaching_more}
+use Rattle.taught.proofs.Laws.{where_is, ranged_none, teaching_more}
 use borrow.Author.Rules.{rules}
 use Rattle.taught.proofs.lists_of.Goals as goal
 

@@ -1,6 +1,5 @@
 -- What the search leaves of `walk::enter`.
 use mathlib.Core.Path.{◌≡◌}
-use Prim.Native.Nat.{◌-◌}
 use native.Mathlib.Omega.{arith}
 use lib.ListN.{length-set}
 use Rattle.walk.proofs.Starts.{entering_none, entering_more, entering_end}

@@ -1,6 +1,5 @@
 -- What the search leaves of `walk::go_on`.
 use mathlib.Core.Path.{◌∙◌}
-use Prim.Native.Nat.{◌-◌}
 use native.Mathlib.Omega.{arith}
 use Rattle.expand.proofs.Areas.{room-kept}
 use Rattle.walk.proofs.Walking.{walking_none, tail_short, walking_more, walking_unfit, walking_end}

@@ -1,6 +1,5 @@
 -- What the search leaves of `walk::mark_roots`.
 use mathlib.Core.Path.{refl, sym, ◌∙◌}
-use Prim.Native.Nat.{◌-◌}
 use native.Mathlib.Omega.{arith}
 use lib.ListN.{length-set}
 use Rattle.rules.specs.Search.{mark}

@@ -1,5 +1,4 @@
 -- What the search leaves of `walk::roots_found`.
-use Prim.Native.Nat.{◌-◌}
 use native.Mathlib.Omega.{arith}
 use Rattle.expand.proofs.Areas.{room-kept}
 use Rattle.expand.proofs.Near.{query-answers}
