@@ -1,4 +1,4 @@
-//! The oracle's own answers over the boundary: every build, search, descent, iteration and relay of the list small.txt, which hora's Rust made.
+//! The oracle's own answers over the boundary: every build, search, descent, iteration and relay of oracle/lists/small.txt, which hora's Rust made.
 use spoonmeadow::{Descent, Game, Lists, Params, Points, Relay};
 
 /// A list as its numbers (oracle/README.md, "The format"), read from the front.
@@ -6,7 +6,7 @@ struct Numbers(std::vec::IntoIter<u32>);
 
 impl Numbers {
     fn of_list() -> Numbers {
-        let path = concat!(env!("CARGO_MANIFEST_DIR"), "/../crates/lists_read/data/small.txt");
+        let path = concat!(env!("CARGO_MANIFEST_DIR"), "/../oracle/lists/small.txt");
         let text = std::fs::read_to_string(path).unwrap();
         let lines = text
             .lines()

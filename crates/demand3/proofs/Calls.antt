@@ -1,13 +1,12 @@
 -- What a call's contract says of the rules: the states that calls leave are those that the rules leave. Assumes nothing.
-use mathlib.Core.Path.{◌≡◌, refl, sym, ap, ◌∙◌, subst}
+use mathlib.Core.Path.{◌≡◌, refl, ap, ◌∙◌}
 use mathlib.Core.List.{List, [], ◌∷◌, ◌++◌}
-use Prim.Native.Nat.{ℕ}
 use Rattle.rules.specs.declared.Answer.{Answer}
 use Rattle.rules.specs.declared.Answer.TheVariants as answer
 use Rattle.rules.specs.declared.Refusal.{Refusal}
 use Rattle.rules.specs.Loops.{through}
-use Rattle.rules.specs.Refusals.{Code, code_of, no_refusal, said_of}
-use Rattle.rules.specs.RelayCall.{OpenLent, OpenOutcome, open_rule, MoveOutcome, move_rule, close_rule}
+use Rattle.rules.specs.Refusals.{code_of, no_refusal, said_of}
+use Rattle.rules.specs.RelayCall.{OpenLent, OpenOutcome, open_rule, MoveOutcome, close_rule}
 use Rattle.rules.proofs.Answers.{same_answer}
 use Rattle.orders.specs.Demand3.{State, at_opening, move_of, after_move, after, Room, closed}
 use Rattle.relay_move.specs.Move.{Moved}

@@ -1,12 +1,10 @@
 -- Demand 3 of the calls (`specs/Relayed.antt` states it), from demand 3 of the rules and the calls' contracts. Assumes nothing.
 use mathlib.Core.Path.{◌≡◌, sym, ap, ◌∙◌, subst}
 use mathlib.Core.List.{List}
-use Prim.Native.Nat.{ℕ}
-use Rattle.rules.specs.declared.Answer.TheVariants as answer
 use Rattle.rules.specs.declared.Refusal.TheVariants as refusal
-use Rattle.rules.specs.Refusals.{code_of, no_refusal, said_of}
+use Rattle.rules.specs.Refusals.{code_of, said_of}
 use Rattle.rules.specs.RelayCall.{OpenLent, CloseOutcome}
-use Rattle.orders.specs.Demand3.{Asked, Finishes, Room, closed, Finished, Demand3}
+use Rattle.orders.specs.Demand3.{Asked, Room, closed, Finished, Demand3}
 use Rattle.orders.proofs.Demand3.{demand3}
 use Rattle.demand3.specs.Relayed.{Move, order, Relayed, HandedBack, Demand3Calls}
 use Rattle.demand3.proofs.Calls.{is-done, is-refused, opening-said, closed_is, said_at}

@@ -22,7 +22,7 @@ use Rattle.buffers.proofs.Laws.{Written, written-more}
 use Rattle.encoded.specs.Words.{Rows}
 use Rattle.encoded.proofs.Lists.{length-list-words, length-list-floats, part-nodes, part-distances}
 use Rattle.relay_state.specs.State.{Sized}
-use Rattle.relay_state.proofs.Parts.{sizes, inside}
+use Rattle.relay_state.proofs.Parts.{inside}
 use Rattle.relay_state.proofs.Reading.{lists-long, list_at_lem}
 use Rattle.relay_state.proofs.Whole.{Facts, facts, words_are, floats_as}
 use Rattle.relay_kept.proofs.Jobs.{pending-finished}

@@ -1,5 +1,5 @@
 -- Step 3's cosine where it is zero over zero: a NaN, which occludes at no threshold. Assumes nothing.
-use mathlib.Core.Path.{◌≡◌, refl, ap}
+use mathlib.Core.Path.{◌≡◌, refl}
 use mathlib.Core.Bool.{Bool, false, ◌||◌, ◌&&◌}
 use lib.Dec.{eqb}
 use lib.Ieee.{Float, nan, inf, fin, of_bits, add, sub, mul, div, lt}

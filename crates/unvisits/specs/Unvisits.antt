@@ -1,6 +1,6 @@
 -- The new lists in contexts, and their pairs unvisited. Assumes nothing.
 use Rattle.std.specs.Prelude.{Bool, List, ℕ, ◌*◌, ◌≤◌, ◌<◌, length, drop}
-use Rattle.rules.specs.Loops.{turns, through, each}
+use Rattle.rules.specs.Loops.{turns, through}
 use Rattle.rules.specs.Descent.{unvisit}
 use Rattle.rules.specs.DescentPlaces.{members_in}
 use Rattle.passes.specs.Passes.{Members}

@@ -1,6 +1,6 @@
 -- What the search leaves of `backs::back_members`.
 use mathlib.Core.Path.{refl}
-use Prim.Native.Nat.{◌+◌, ◌-◌, ◌*◌}
+use Prim.Native.Nat.{◌+◌, ◌*◌}
 use native.Mathlib.Omega.{arith}
 use Rattle.backs.proofs.Laws.{backing_none, backing_turn, backing_end}
 use Rattle.backs.proofs.back_members.Goals as goal

@@ -1,5 +1,4 @@
 -- What the search leaves of `backs::repeat`.
-use Prim.Native.Nat.{◌-◌}
 use Rattle.backs.proofs.Laws.{repeating_none, repeating_turn, repeating_end}
 use borrow.Author.Rules.{rules}
 use Rattle.backs.proofs.repeat.Goals as goal

@@ -1,6 +1,5 @@
 -- What the search leaves of `begins::draw_members`.
 use mathlib.Core.Path.{sym, ◌∙◌}
-use Prim.Native.Nat.{◌-◌}
 use native.Mathlib.Omega.{arith}
 use Rattle.begins.proofs.Laws.{drawing_none, drawing_long, drawing_turn, drawing_end}
 use Rattle.begins.proofs.draw_members.Goals as goal

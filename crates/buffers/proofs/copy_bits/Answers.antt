@@ -1,7 +1,7 @@
 -- What the search leaves of `buffers::copy_bits`.
 use mathlib.Core.Path.{◌≡◌, ap, ◌∙◌}
 use mathlib.Core.List.{map}
-use Prim.Native.Nat.{ℕ, ◌-◌}
+use Prim.Native.Nat.{ℕ}
 use native.Mathlib.Omega.{arith}
 use lib.ListN.{length-map, get_or-map}
 use lib.Ieee.{nan, binary32, to_bits}

@@ -1,6 +1,6 @@
 -- What the search leaves of `buffers::copy_words`.
 use mathlib.Core.Path.{◌≡◌, refl, ap, ◌∙◌}
-use Prim.Native.Nat.{ℕ, ◌-◌}
+use Prim.Native.Nat.{ℕ}
 use native.Mathlib.Omega.{arith}
 use Rattle.rules.specs.Loops.{over}
 use Rattle.buffers.proofs.Laws.{written_none, written-more}

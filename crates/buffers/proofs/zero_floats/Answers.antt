@@ -1,5 +1,4 @@
 -- What the search leaves of `buffers::zero_floats`.
-use Prim.Native.Nat.{◌-◌}
 use native.Mathlib.Omega.{arith}
 use Rattle.rules.specs.Distance.{zero32}
 use Rattle.buffers.proofs.Laws.{written_none, filled_more, filled-end}

@@ -1,5 +1,4 @@
 -- What the search leaves of `buffers::zero_words`.
-use Prim.Native.Nat.{◌-◌}
 use native.Mathlib.Omega.{arith}
 use Rattle.buffers.proofs.Laws.{written_none, filled_more, filled-end}
 use borrow.Author.Rules.{rules}

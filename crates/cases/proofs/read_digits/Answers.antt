@@ -1,5 +1,5 @@
 -- What the search leaves of `cases::read_digits`.
-use Rattle.std.proofs.Common.{◌-◌, sym, refl, ◌∙◌, rules}
+use Rattle.std.proofs.Common.{sym, refl, ◌∙◌, rules}
 use Rattle.cases.proofs.Laws.{digits_end, digits_stop, digits_full, digits_turn}
 use Rattle.cases.proofs.read_digits.Goals as goal
 

@@ -1,5 +1,5 @@
 -- What the search leaves of `cases::read_floats`.
-use Rattle.std.proofs.Common.{◌-◌, arith, length-set, rules}
+use Rattle.std.proofs.Common.{arith, length-set, rules}
 use Rattle.cases.specs.Text.{floats_at}
 use Rattle.cases.proofs.Laws.{floats_turn, floats_none, filling_none, filling_turn, filling_end}
 use Rattle.cases.proofs.read_floats.Goals as goal

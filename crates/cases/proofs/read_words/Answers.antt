@@ -1,5 +1,5 @@
 -- What the search leaves of `cases::read_words`.
-use Rattle.std.proofs.Common.{◌-◌, arith, length-set, rules}
+use Rattle.std.proofs.Common.{arith, length-set, rules}
 use Rattle.cases.specs.Text.{words_at}
 use Rattle.cases.proofs.Laws.{words_turn, words_none, filling_none, filling_turn, filling_end}
 use Rattle.cases.proofs.read_words.Goals as goal

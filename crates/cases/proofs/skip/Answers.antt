@@ -1,5 +1,5 @@
 -- What the search leaves of `cases::skip`.
-use Rattle.std.proofs.Common.{◌-◌, sym, refl, ◌∙◌, rules}
+use Rattle.std.proofs.Common.{sym, refl, ◌∙◌, rules}
 use Rattle.cases.proofs.Laws.{skipped-end, skipped_stop, skipped_turn}
 use Rattle.cases.proofs.skip.Goals as goal
 

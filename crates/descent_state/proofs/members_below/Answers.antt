@@ -1,5 +1,5 @@
 -- What the search leaves of `descent_state::members_below`.
-use Prim.Native.Nat.{◌+◌, ◌-◌}
+use Prim.Native.Nat.{◌+◌}
 use native.Mathlib.Omega.{arith}
 use Rattle.descent_state.proofs.Members.{checked_none, checked_turn, checked_not, checked_end}
 use Rattle.descent_state.proofs.members_below.Goals as goal

@@ -1,6 +1,5 @@
 -- What the search leaves of `descent_state::spare_clear`.
 use mathlib.Core.Path.{refl}
-use Prim.Native.Nat.{◌-◌}
 use native.Mathlib.Omega.{arith}
 use Rattle.descent_state.proofs.Spare.{square, clear_none, clear_turn, clear-not, clear-end}
 use Rattle.descent_state.proofs.spare_clear.Goals as goal

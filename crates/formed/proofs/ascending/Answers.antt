@@ -1,7 +1,6 @@
 -- What the search leaves of `formed::ascending`.
 use mathlib.Core.Path.{refl, sym, ◌∙◌}
 use mathlib.Core.Bool.{true, false}
-use Prim.Native.Nat.{◌-◌}
 use borrow.Author.Rules.{rules}
 use Rattle.formed.proofs.Laws.{in_order_lem, in_order-end}
 use Rattle.formed.proofs.ascending.Goals as goal

@@ -1,6 +1,5 @@
 -- What the search leaves of `formed::entries_formed`.
 use mathlib.Core.Path.{refl, sym, ◌∙◌}
-use Prim.Native.Nat.{◌-◌}
 use borrow.Author.Tests.{not-true, not-false}
 use borrow.Author.Rules.{rules}
 use Rattle.formed.proofs.Laws.{entries-not, entries_turn, entries-end}

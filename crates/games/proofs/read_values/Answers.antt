@@ -1,5 +1,5 @@
 -- What the search leaves of `games::read_values`.
-use Rattle.std.proofs.Common.{◌-◌, sym, refl, ◌∙◌, length-set}
+use Rattle.std.proofs.Common.{sym, refl, ◌∙◌, length-set}
 use borrow.Author.Tests.{not-true, not-false}
 use Rattle.games.proofs.Laws.{filled_none, filled_full, filled_wrong, filled_turn}
 use Rattle.games.proofs.read_values.Goals as goal

@@ -1,5 +1,5 @@
 -- What the search leaves of `games::read_wholes`.
-use Rattle.std.proofs.Common.{◌-◌, sym, refl, ◌∙◌, length-set, eq-eqb, ne_eqb}
+use Rattle.std.proofs.Common.{sym, refl, ◌∙◌, length-set, eq-eqb, ne_eqb}
 use Rattle.games.proofs.Laws.{filled_none, filled_full, filled_wrong, filled_turn}
 use Rattle.games.proofs.read_wholes.Goals as goal
 

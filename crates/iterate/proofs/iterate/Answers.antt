@@ -1,15 +1,14 @@
 -- `iterate::iterate` meets its contract: a row that holds, or one iteration. Assumes nothing.
-use Prim.Native.Nat.{ℕ}
 use native.Mathlib.Omega.{arith}
 use lib.Dec.{T}
 use lib.Ieee.{Float, nan, binary32, fits}
 use Rattle.rules.specs.DescentCall.{DescentLent, iterate_table}
 use Rattle.lists.proofs.Plain.{all_of}
-use Rattle.encoded.specs.Words.{Binary32}
 use Rattle.descent.specs.Descent.{lent}
 use Rattle.iterate.proofs.Table.{iterate_ready}
 use Rattle.iterate.proofs.Outcomes.{iterate_refused, no_row, iterate_done}
-use Rattle.iterate.proofs.iterate.Goals.{After-shared_slice_known-2-1, After-slice_known-2-1, Start}
+use borrow.Author.Rules.{rules}
+use Rattle.iterate.proofs.iterate.Goals.{Start}
 use Rattle.iterate.proofs.iterate.Goals as goal
 
 -- what was lent
@@ -18,10 +17,6 @@ lent_to c =
     let a = c.args in
     lent a.dimension a.n a.lanes.now a.k a.s a.draws.now a.state_u.now a.state_f.now a.scratch_u.now a.scratch_f.now
 
--- what an f32 slice holds are values of binary32
-values : (c : After-slice_known-2-1) → Binary32 c.args.state_f.now
-values c = all_of (λ (x : Float). T (fits binary32 x)) c.args.state_f.now nan (λ (i : ℕ) h. c.type_inv.state_f i)
-
 pub iterate_state-c-requires : goal.iterate_state-c-requires
 unfolding iterate_table
 iterate_state-c-requires c =
@@ -29,7 +24,7 @@ iterate_state-c-requires c =
     let r = h.ready in
     let room = r.words_room in (
       record { lanes_long = r.lanes_long; few = r.few_nodes; some = r.sizes.some_k; narrow = r.sizes.few_k; words = r.state_words; floats = r.state_floats },
-      record { formed = h.formed; words = λ (q : ℕ). (c.slice_known-1.given q).fits; floats = values (goal.at.iterate_state-c-requires c).After-shared_slice_known-2-1 },
+      record { formed = h.formed; words = search rules; floats = all_of (λ (x : Float). T (fits binary32 x)) c.args.state_f.now nan (search rules) },
       r.sizes.few_s,
       h.draws,
       omega arith,

@@ -1,15 +1,14 @@
 -- What the search leaves of `all_fit`.
 use mathlib.Core.Path.{◌≡◌, sym, ◌∙◌}
 use mathlib.Core.Bool.{Bool}
-use Prim.Native.Nat.{ℕ, ◌+◌, ◌-◌}
+use Prim.Native.Nat.{ℕ, ◌+◌}
 use native.Mathlib.Omega.{arith}
 use borrow.Author.Rules.{rules}
-use borrow.Author.Tests.{not-true}
 use lib.ListN.{get_or}
 use lib.Ieee.{nan}
 use Rattle.rules.specs.Distance.{fit}
 use Rattle.zeros.proofs.Laws.{all_none, all-not}
-use Rattle.kernels.proofs.Laws.{not-not, all-passed}
+use Rattle.kernels.proofs.Laws.{all-passed}
 use Rattle.kernels.proofs.all_fit.Goals.{else-not-is_fit, then-not-is_fit}
 use Rattle.kernels.proofs.all_fit.Goals as goal
 

@@ -1,6 +1,5 @@
 -- What the search leaves of `clear`.
 use mathlib.Core.Path.{refl, sym, ◌∙◌}
-use Prim.Native.Nat.{◌-◌}
 use borrow.Author.Rules.{rules}
 use borrow.Author.Tests.{not-true}
 use Rattle.rules.specs.Distance.{nodes_apart}

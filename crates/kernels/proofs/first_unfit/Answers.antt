@@ -1,6 +1,6 @@
 -- What the search leaves of `first_unfit`.
 use mathlib.Core.Path.{sym, ◌∙◌}
-use Prim.Native.Nat.{ℕ, ◌-◌}
+use Prim.Native.Nat.{ℕ}
 use native.Mathlib.Omega.{arith}
 use borrow.Author.Rules.{rules}
 use Rattle.rules.specs.Distance.{nodes_apart}

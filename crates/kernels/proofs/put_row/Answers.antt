@@ -1,6 +1,6 @@
 -- What the search leaves of `put_row`.
 use mathlib.Core.Path.{refl}
-use Prim.Native.Nat.{ℕ, ◌-◌}
+use Prim.Native.Nat.{ℕ}
 use native.Mathlib.Omega.{arith}
 use borrow.Author.Rules.{rules}
 use Rattle.kernels.proofs.Laws.{putting_more, put}

@@ -1,5 +1,4 @@
 -- What the search leaves of `totals4`.
-use Prim.Native.Nat.{◌-◌}
 use native.Mathlib.Omega.{arith}
 use borrow.Author.Rules.{rules}
 use Rattle.kernels.proofs.Fours.{left_none, left-more, left_end}

@@ -1,5 +1,4 @@
 -- What the search leaves of `totals8`.
-use Prim.Native.Nat.{◌-◌}
 use native.Mathlib.Omega.{arith}
 use borrow.Author.Rules.{rules}
 use Rattle.kernels.proofs.Laws.{summing_none, summing_more, summed}

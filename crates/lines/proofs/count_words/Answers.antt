@@ -1,5 +1,5 @@
 -- What the search leaves of `lines::count_words`.
-use Rattle.std.proofs.Common.{◌-◌, sym, ◌∙◌, rules}
+use Rattle.std.proofs.Common.{sym, ◌∙◌, rules}
 use Rattle.lines.proofs.Laws.{count_start, count_none, count_turn, count-all}
 use Rattle.lines.proofs.count_words.Goals as goal
 

@@ -1,5 +1,5 @@
 -- What the search leaves of `lines::find`.
-use Rattle.std.proofs.Common.{◌-◌, sym, refl, ◌∙◌, rules}
+use Rattle.std.proofs.Common.{sym, refl, ◌∙◌, rules}
 use Rattle.lines.proofs.Laws.{end-end, end_stop, end_turn}
 use Rattle.lines.proofs.find.Goals as goal
 

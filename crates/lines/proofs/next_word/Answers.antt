@@ -1,5 +1,5 @@
 -- What the search leaves of `lines::next_word`.
-use Rattle.std.proofs.Common.{◌-◌, sym, ◌∙◌, rules}
+use Rattle.std.proofs.Common.{sym, ◌∙◌, rules}
 use Rattle.lines.proofs.Laws.{word_start, word_end, word_stop, word_turn}
 use Rattle.lines.proofs.next_word.Goals as goal
 

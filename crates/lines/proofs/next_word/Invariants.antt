@@ -4,7 +4,7 @@ use Rattle.lines.specs.Words.{word_of, word_at}
 use Rattle.lines.proofs.next_word.Given as goal
 
 abbrev pub invariant-loop-end : goal.invariant-loop-end
-invariant-loop-end l = word_of (record { l.start = l.start; l.end = l.end; l.spelt = l.spelt; l.shape = l.shape; l.digits = l.digits }) (drop l.end l.text) ≡ word_at l.text l.from
+invariant-loop-end l = word_of (record { start = l.start; end = l.end; spelt = l.spelt; shape = l.shape; digits = l.digits }) (drop l.end l.text) ≡ word_at l.text l.from
 
 abbrev pub decreases-loop-end : goal.decreases-loop-end
 decreases-loop-end l = length l.text - l.end

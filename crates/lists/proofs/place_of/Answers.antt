@@ -1,6 +1,5 @@
 -- What the search leaves of `lists::place_of`.
 use mathlib.Core.Path.{sym, ◌∙◌}
-use Prim.Native.Nat.{◌-◌}
 use native.Mathlib.Nat.{zero-add}
 use borrow.Author.Rules.{rules}
 use Rattle.lists.proofs.Slices.{passed_here, passed_turn, passed-end}

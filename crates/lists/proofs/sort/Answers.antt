@@ -1,5 +1,4 @@
 -- What the search leaves of `lists::sort`.
-use Prim.Native.Nat.{◌-◌}
 use borrow.Author.Rules.{rules}
 use Rattle.lists.proofs.Slices.{sorting_none, sorting_turn, sorting_end}
 use Rattle.lists.proofs.sort.Goals as goal

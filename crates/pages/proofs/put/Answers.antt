@@ -1,6 +1,5 @@
 -- What the search leaves of `pages::put`.
 use mathlib.Core.Path.{refl}
-use Prim.Native.Nat.{◌-◌}
 use native.Mathlib.Omega.{arith}
 use borrow.Author.Rules.{rules}
 use Rattle.pages.proofs.Laws.{putting_turn, putting_full, putting_end}

@@ -1,6 +1,5 @@
 -- What the search leaves of `passes::meet_row`.
 use mathlib.Core.Path.{◌≡◌}
-use Prim.Native.Nat.{◌-◌}
 use native.Mathlib.Omega.{arith}
 use lib.ListN.{length}
 use Rattle.passes.proofs.Contexts.{short-at}

@@ -1,6 +1,6 @@
 -- What the search leaves of `passes::pass`.
 use mathlib.Core.Path.{◌≡◌, ap, ◌∙◌}
-use Prim.Native.Nat.{ℕ, ◌-◌, ◌≤◌, ◌<◌}
+use Prim.Native.Nat.{ℕ, ◌≤◌, ◌<◌}
 use native.Mathlib.Omega.{arith}
 use lib.ListN.{length, get_or, drop, length-drop}
 use Rattle.passes.specs.Passes.{row_pairs, first_of, pass_pairs}

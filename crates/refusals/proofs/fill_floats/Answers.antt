@@ -1,5 +1,5 @@
 -- What the search leaves of `refusals::fill_floats`.
-use Rattle.std.proofs.Common.{◌-◌, arith, rules}
+use Rattle.std.proofs.Common.{arith, rules}
 use Rattle.refusals.specs.Junk.{next_float}
 use Rattle.refusals.proofs.Laws.{filling_none, filling_turn, filling_end}
 use Rattle.refusals.proofs.fill_floats.Goals as goal

@@ -1,5 +1,5 @@
 -- What the search leaves of `refusals::kept_floats`.
-use Rattle.std.proofs.Common.{◌-◌, sym, refl, ◌∙◌, arith, rules}
+use Rattle.std.proofs.Common.{sym, refl, ◌∙◌, arith, rules}
 use lib.Ieee.{ne, nan}
 use Rattle.refusals.specs.Junk.{next_float}
 use Rattle.refusals.proofs.Laws.{stands-end, stands_same, stands-not}

@@ -1,5 +1,5 @@
 -- What the search leaves of `refusals::lanes`.
-use Rattle.std.proofs.Common.{◌-◌, arith, length-set, rules}
+use Rattle.std.proofs.Common.{arith, length-set, rules}
 use Rattle.refusals.specs.Given.{lanes_at}
 use Rattle.cases.proofs.Laws.{filling_none, filling_turn, filling_end}
 use Rattle.refusals.proofs.Laws.{lanes_turn, lanes_none}

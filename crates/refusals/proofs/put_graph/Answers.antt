@@ -1,5 +1,5 @@
 -- What the search leaves of `refusals::put_graph`.
-use Rattle.std.proofs.Common.{◌-◌, ◌∙◌, rules}
+use Rattle.std.proofs.Common.{◌∙◌, rules}
 use Rattle.pages.proofs.Laws.{puts_both, puts_long, running_start, running_turn, running_rest, running_long, running_end}
 use Rattle.refusals.proofs.Laws.{places_here, places_over}
 use Rattle.refusals.proofs.put_graph.Goals as goal

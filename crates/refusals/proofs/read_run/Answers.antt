@@ -12,4 +12,4 @@ returns c =
     let s = c.read_size-count in
     let r = c.read_words-cursor in
     let made = run_made words_at _ _ _ s.result s.ensures.value s.ensures.value_le_most _ r.result r.ensures.out_after r.ensures.value in
-    let both = (search rules, made) in record { value_in_bounds = both.0; value = both.1.0; out_after = both.1.1 }
+    record { value_in_bounds = search rules; value = made.0; out_after = made.1 }

@@ -8,7 +8,7 @@ use Rattle.encoded.specs.Words.{Binary32}
 use Rattle.relay_close.specs.Close.{lent}
 use Rattle.relay_close.proofs.Table.{ready}
 use Rattle.relay_close.proofs.Outcomes.{closed-refused, no_row, closed-done}
-use Rattle.relay_close.proofs.close.Goals.{After-shared_slice_known-2-1, Start}
+use Rattle.relay_close.proofs.close.Goals.{Start}
 use Rattle.relay_close.proofs.close.Goals as goal
 
 -- what the call was lent
@@ -17,20 +17,20 @@ lent_to start =
     let a = start.args in
     lent a.n a.k a.state_u.now a.state_f.now a.nodes.now a.distances.now a.reports.now
 
--- what an f32 slice holds are values of binary32
-values : (c : After-shared_slice_known-2-1) → Binary32 c.args.state_f.now
-values c = all_of (λ (x : Float). T (fits binary32 x)) c.args.state_f.now nan (λ (i : ℕ) h. c.type_inv.state_f i)
-
 pub write_lists-requires : goal.write_lists-requires
 write_lists-requires c =
     let l = lent_to (goal.at.write_lists-requires c).Start in
-    let p = ready l (values (goal.at.write_lists-requires c).Start) (no_row l c.judge-v.ensures c.in-Done.is) in
+    -- what an f32 slice holds are values of binary32
+    let f : Binary32 c.args.state_f.now = all_of (λ (x : Float). T (fits binary32 x)) c.args.state_f.now nan (λ (i : ℕ) h. c.type_inv.state_f i) in
+    let p = ready l f (no_row l c.judge-v.ensures c.in-Done.is) in
     (p.done, p.nodes_long, p.distances_long)
 
 pub write_reports-requires : goal.write_reports-requires
 write_reports-requires c =
     let l = lent_to (goal.at.write_reports-requires c).Start in
-    let p = ready l (values (goal.at.write_reports-requires c).Start) (no_row l c.judge-v.ensures c.in-Done.is) in
+    -- what an f32 slice holds are values of binary32
+    let f : Binary32 c.args.state_f.now = all_of (λ (x : Float). T (fits binary32 x)) c.args.state_f.now nan (λ (i : ℕ) h. c.type_inv.state_f i) in
+    let p = ready l f (no_row l c.judge-v.ensures c.in-Done.is) in
     (p.done, p.reports_long)
 
 pub returns-in-Refused : goal.returns-in-Refused

@@ -1,5 +1,4 @@
 -- What the search leaves of `relay_close::write_reports`.
-use Prim.Native.Nat.{◌-◌}
 use native.Mathlib.Omega.{arith}
 use lib.ListN.{length, length-set}
 use borrow.Author.Rules.{rules}

@@ -1,5 +1,4 @@
 -- What the search leaves of `relay_open::fill`.
-use Prim.Native.Nat.{◌-◌}
 use native.Mathlib.Omega.{arith}
 use borrow.Author.Rules.{rules}
 use Rattle.buffers.proofs.Laws.{written_none, filled_more, filled-end}

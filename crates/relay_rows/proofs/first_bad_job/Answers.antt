@@ -1,6 +1,6 @@
 -- What the search leaves of `relay_rows::first_bad_job`.
 use mathlib.Core.Path.{refl}
-use Prim.Native.Nat.{◌+◌, ◌-◌, ◌*◌}
+use Prim.Native.Nat.{◌+◌, ◌*◌}
 use native.Mathlib.Omega.{arith}
 use Rattle.relay_rows.proofs.Laws.{seek_none, seek_u, seek_v, seek_turn, seek_end}
 use borrow.Author.Rules.{rules}

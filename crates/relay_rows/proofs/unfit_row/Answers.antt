@@ -1,6 +1,6 @@
 -- What the search leaves of `relay_rows::unfit_row`.
 use mathlib.Core.Path.{refl}
-use Prim.Native.Nat.{◌-◌, ◌<◌}
+use Prim.Native.Nat.{◌<◌}
 use native.Mathlib.Omega.{arith}
 use Rattle.rules.specs.Refusals.{job_count, decision_of, code_of}
 use Rattle.relay_rows.proofs.Laws.{measuring_none, measuring_found, measuring_turn, measuring_end}

@@ -1,6 +1,5 @@
 -- What the search leaves of `relay_state::each_formed`.
 use mathlib.Core.Path.{sym, ◌∙◌}
-use Prim.Native.Nat.{◌-◌}
 use native.Mathlib.Omega.{arith}
 use borrow.Author.Tests.{not-true, not-false}
 use lib.ListN.{length-take, length-drop}

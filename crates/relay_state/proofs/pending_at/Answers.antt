@@ -1,5 +1,4 @@
 -- What the search leaves of `relay_state::pending_at`.
-use Prim.Native.Nat.{◌-◌}
 use native.Mathlib.Omega.{arith}
 use lib.ListN.{length-take, length-drop}
 use borrow.Author.Rules.{rules}

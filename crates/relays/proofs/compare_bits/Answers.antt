@@ -1,5 +1,5 @@
 -- What the search leaves of `relays::compare_bits`.
-use Rattle.std.proofs.Common.{◌≡◌, ◌+◌, ◌-◌, ◌<◌, ◌∙◌, mod-eq_of_lt, rules}
+use Rattle.std.proofs.Common.{◌≡◌, ◌+◌, ◌<◌, ◌∙◌, mod-eq_of_lt, rules}
 use Rattle.relays.proofs.Laws.{counting_none, counting_end, counting_same, counting_other}
 use Rattle.relays.proofs.compare_bits.Goals as goal
 

@@ -1,6 +1,5 @@
 -- What the search leaves of `renews::gather`.
 use mathlib.Core.Path.{refl}
-use Prim.Native.Nat.{◌-◌}
 use native.Mathlib.Omega.{arith}
 use Rattle.renews.proofs.Laws.{gathering_none, gathering_more, gathering_end}
 use Rattle.meets.proofs.Laws.{where_is}

@@ -1,5 +1,5 @@
 -- What the search leaves of `replays::all_words`.
-use Rattle.std.proofs.Common.{◌-◌, sym, refl, ◌∙◌, rules}
+use Rattle.std.proofs.Common.{sym, refl, ◌∙◌, rules}
 use Rattle.replays.proofs.Laws.{holds-end, holds-here, holds_turn}
 use Rattle.replays.proofs.all_words.Goals as goal
 

@@ -1,5 +1,5 @@
 -- What the search leaves of `replays::all_zero`.
-use Rattle.std.proofs.Common.{◌-◌, sym, refl, ◌∙◌, rules}
+use Rattle.std.proofs.Common.{sym, refl, ◌∙◌, rules}
 use Rattle.replays.proofs.Laws.{zero-end, zero-here, zero_turn}
 use borrow.Author.Tests.{not-true, not-false}
 use Rattle.replays.proofs.all_zero.Goals as goal

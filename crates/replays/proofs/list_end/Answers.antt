@@ -1,8 +1,5 @@
 -- `replays::list_end` meets its contract. Assumes nothing.
-use Rattle.std.proofs.Common.{◌≡◌, [], ◌∷◌, sym, refl, ap, ◌∙◌, inl, inr, arith}
-use denote.Enum.Declared.{tag_of}
-use types.Run.{OneOf}
-use Rattle.cases.specs.contracts.Token.{the_type}
+use Rattle.std.proofs.Common.{◌≡◌, sym, refl, ap, ◌∙◌}
 use Rattle.cases.specs.declared.Cursor.{Cursor}
 use Rattle.cases.specs.declared.Token.{Token}
 use Rattle.cases.specs.declared.Token.TheVariants.{Number, End, TooLarge, Strange}

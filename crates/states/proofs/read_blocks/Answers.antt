@@ -1,6 +1,5 @@
 -- What the search leaves of `states::read_blocks`.
 use mathlib.Core.Path.{ap, ◌∙◌}
-use Prim.Native.Nat.{◌-◌}
 use native.Mathlib.Omega.{arith}
 use lib.ListN.{length-set}
 use Rattle.states.proofs.Reading.{blocks_none, blocks_turn, blocks_end, blocks-short}

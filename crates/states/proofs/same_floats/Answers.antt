@@ -1,6 +1,5 @@
 -- What the search leaves of `states::same_floats`.
 use mathlib.Core.Path.{refl, sym, ◌∙◌}
-use Prim.Native.Nat.{◌-◌}
 use lib.Ieee.{nan}
 use Rattle.states.proofs.Laws.{alike-lengths, alike_end, alike-here, alike_turn}
 use Rattle.states.specs.Same.{same_bits}

@@ -1,6 +1,5 @@
 -- What the search leaves of `table::first_bad_root`.
 use mathlib.Core.Path.{sym, ◌∙◌}
-use Prim.Native.Nat.{◌-◌}
 use native.Mathlib.Omega.{arith}
 use Rattle.rules.specs.Refusals.{bad_root, first_bad_root}
 use Rattle.rules.proofs.Loops.{first-begun, first-here, first_turn, first-end}

@@ -1,5 +1,4 @@
 -- What the search leaves of `table::has`.
-use Prim.Native.Nat.{◌-◌}
 use Rattle.rules.proofs.Loops.{has_any}
 use Rattle.table.proofs.Laws.{has_here, has_turn, has_end}
 use borrow.Author.Rules.{rules}

@@ -1,6 +1,6 @@
 -- What the search leaves of `unvisits::unvisit_all`.
 use mathlib.Core.Path.{◌≡◌, ◌∙◌}
-use Prim.Native.Nat.{ℕ, ◌-◌, ◌*◌, ◌<◌}
+use Prim.Native.Nat.{ℕ, ◌*◌, ◌<◌}
 use native.Mathlib.Omega.{arith}
 use Rattle.passes.proofs.Contexts.{ListIn, members-room, members_cut}
 use Rattle.unvisits.proofs.Laws.{each_none, each_more, each_to}

@@ -1,7 +1,7 @@
 -- What the search leaves of `unvisits::unvisit_row`.
 use mathlib.Core.Path.{◌∙◌}
 use mathlib.Core.Path.{◌≡◌}
-use Prim.Native.Nat.{ℕ, ◌-◌, ◌<◌}
+use Prim.Native.Nat.{ℕ, ◌<◌}
 use native.Mathlib.Omega.{arith}
 use lib.ListN.{length}
 use Rattle.lists.proofs.Plain.{all-at}

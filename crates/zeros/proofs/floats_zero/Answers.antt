@@ -1,7 +1,6 @@
 -- What the search leaves of `zeros::floats_zero`.
 use mathlib.Core.Path.{refl, sym, ◌∙◌}
 use mathlib.Core.Bool.{true, false}
-use Prim.Native.Nat.{◌-◌}
 use borrow.Author.Tests.{not-true, not-false}
 use Rattle.zeros.proofs.Laws.{bits_turn, bits-end}
 use Rattle.zeros.proofs.floats_zero.Goals as goal

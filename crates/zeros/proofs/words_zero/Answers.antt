@@ -1,6 +1,5 @@
 -- What the search leaves of `zeros::words_zero`.
 use mathlib.Core.Path.{refl, sym, ◌∙◌}
-use Prim.Native.Nat.{◌-◌}
 use Rattle.zeros.proofs.Laws.{zeros_turn, zeros-not, zeros-end}
 use Rattle.zeros.proofs.words_zero.Goals as goal
 
