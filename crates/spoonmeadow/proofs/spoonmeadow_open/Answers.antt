@@ -1,7 +1,6 @@
 -- `spoonmeadow_open` meets its contract: the entry's, over what its answer says. Assumes nothing.
 use Rattle.spoonmeadow.proofs.Laws.{opened}
-use Rattle.spoonmeadow.proofs.spoonmeadow_open.Goals.{After-open-a}
 use Rattle.spoonmeadow.proofs.spoonmeadow_open.Goals as goal
 
 pub returns : goal.returns
-returns c = opened c.of_answer.ensures (goal.at.returns c).After-open-a.«open».ensures
+returns c = opened c.of_answer.ensures c.open-a.ensures
