@@ -1,6 +1,6 @@
 """Computes the rulebook on the oracle's small cases and holds each value to the Rust's.
 
-Each case of small.txt becomes a statement about the definitions of crates/rules/specs, proved by computation alone.
+Each case of lists/small.txt becomes a statement about the definitions of crates/rules/specs, proved by computation alone.
 The crate is copied to a temporary folder, the statements are added there, and `rt check` must accept it.
 """
 import os
@@ -80,14 +80,8 @@ def checked(w):
         return subprocess.run(["rt", "check"], capture_output=True, text=True, cwd=folder)
 
 
-def list_of(name):
-    """Where a list of that name is kept, or the file of that name."""
-    kept = dict(line.split() for line in text_of(ROOT, "oracle", "lists").splitlines() if not line.startswith("#"))
-    return os.path.join(ROOT, kept[name]) if name in kept else name
-
-
 def main():
-    w = stated(list_of(sys.argv[1] if len(sys.argv) > 1 else "small.txt"))
+    w = stated(sys.argv[1] if len(sys.argv) > 1 else os.path.join(ROOT, "oracle", "lists", "small.txt"))
     done = checked(w)
     text = done.stdout + done.stderr
     wrong = [line for line in text.splitlines() if "error" in line]
