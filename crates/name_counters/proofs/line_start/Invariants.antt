@@ -1,5 +1,5 @@
 -- `name_counters::line_start` meets its contract: the lines that are left start where all do. Assumes nothing.
-use Rattle.std.proofs.Common.{◌≡◌, ◌-◌}
+use Rattle.std.proofs.Common.{◌≡◌}
 use Rattle.name_counters.specs.Messages.{line_start}
 use Rattle.name_counters.proofs.line_start.Given as goal
 

@@ -1,5 +1,4 @@
 -- What the search leaves of `relay_orders::with_set`.
-use Rattle.std.proofs.Common.{◌-◌}
 use Rattle.relay_orders.proofs.with_set.Goals as goal
 
 pub loop-kind-init : goal.loop-kind-init

@@ -1,5 +1,5 @@
 -- What the search leaves of `relay_orders::order::fill_by_rule`.
-use Rattle.std.proofs.Common.{◌-◌, arith, rules}
+use Rattle.std.proofs.Common.{arith, rules}
 use Rattle.relay_orders.proofs.Laws.{filling_none, filling_turn, filling_end, ruled_none, ruled_turn, ruled-end}
 use Rattle.relay_orders.proofs.order.fill_by_rule.Goals as goal
 

@@ -1,5 +1,5 @@
 -- What the search leaves of `relay_orders::order::fill_drawn`.
-use Rattle.std.proofs.Common.{◌-◌, ap, ◌∙◌, arith}
+use Rattle.std.proofs.Common.{ap, ◌∙◌, arith}
 use Rattle.relay_orders.specs.Order.{drawn, below}
 use Rattle.relay_orders.proofs.Laws.{filling_none, filling_turn, filling_end, drawn_none, drawn_turn, drawn-end}
 use Rattle.relay_orders.proofs.order.fill_drawn.Goals as goal

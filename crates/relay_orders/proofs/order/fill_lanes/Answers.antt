@@ -1,5 +1,5 @@
 -- What the search leaves of `relay_orders::order::fill_lanes`.
-use Rattle.std.proofs.Common.{◌-◌, ap, ◌∙◌, arith}
+use Rattle.std.proofs.Common.{ap, ◌∙◌, arith}
 use Rattle.relay_orders.specs.Order.{drawn, lane_from}
 use Rattle.relay_orders.proofs.Laws.{filling_none, filling_turn, filling_end, drawn_none, drawn_turn, drawn-end}
 use Rattle.relay_orders.proofs.order.fill_lanes.Goals as goal

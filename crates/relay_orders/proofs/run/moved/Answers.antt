@@ -1,5 +1,5 @@
 -- What the search leaves of `relay_orders::run::moved`.
-use Rattle.std.proofs.Common.{◌-◌, refl, ◌∙◌, rules}
+use Rattle.std.proofs.Common.{refl, ◌∙◌, rules}
 use Rattle.relay_orders.proofs.Runs.{step_made, moved_turn, moved-end}
 use Rattle.relay_orders.proofs.run.moved.Goals as goal
 
