@@ -1,5 +1,4 @@
 -- What the search leaves of `refusals_descent::call::fill_empty`.
-use Prim.Native.Nat.{◌-◌}
 use native.Mathlib.Omega.{arith}
 use Rattle.rules.specs.Rows.{empty_distance}
 use Rattle.buffers.proofs.Laws.{written_none, filled_more, filled-end}

@@ -1,6 +1,5 @@
 -- What the search leaves of `refusals_descent::call::fill_nodes`.
 use mathlib.Core.Path.{refl, sym, ◌∙◌}
-use Prim.Native.Nat.{◌-◌}
 use lib.ListN.{length-set}
 use Rattle.refusals_descent.proofs.Laws.{filled_none, filled_out, filled-first, filled_on}
 use borrow.Author.Rules.{rules}

@@ -1,6 +1,5 @@
 -- What the search leaves of `refusals_descent::call::put_nonzero`.
 use mathlib.Core.Path.{refl}
-use Prim.Native.Nat.{◌-◌}
 use Rattle.refusals_descent.proofs.call.put_nonzero.Goals as goal
 
 pub loop-i-init : goal.loop-i-init
