@@ -1,7 +1,7 @@
 // What tests over files read, count and say: a list, how a case came out, and how many did.
 #![tactic(auto)]
 
-ghost use Rattle.std.specs.Prelude.{◌≡◌, IfOk, IsOk};
+ghost use Rattle.std.specs.Prelude.{◌≡◌, IfOk, IsOk, OnErr, length};
 ghost use Rattle.std.specs.Io.{ReadsAtMost};
 ghost use Rattle.pages.specs.Page.{Puts};
 ghost use Rattle.tallies.specs.Tallies.{no_case, fresh_at, moved_to, joined, scratched, counted, closed, differs_text, tally_text};
@@ -186,7 +186,8 @@ pub fn ended(t: Tally, kind: u32, c: Cursor) -> Tally
 }
 
 fn read_named(rt: &(impl Env + Files + Print), i: usize, room: &mut [u8]) -> io::Result<usize>
-    ensures { ReadsAtMost result room.new }
+    ensures ok { ReadsAtMost result room.new }
+    ensures err { OnErr result (length room.new ≡ length room.old) }
 {
     let mut path = [0u8; 4096];
     let n = inputs::arg(rt, i, &mut path);
@@ -205,7 +206,8 @@ pub fn read_list(
     i: usize,
     room: &mut [u8],
 ) -> io::Result<usize>
-    ensures { ReadsAtMost result room.new }
+    ensures ok { ReadsAtMost result room.new }
+    ensures err { OnErr result (length room.new ≡ length room.old) }
 {
     if i == 0 {
         return inputs::read_full(&mut rt.reader(), room);
