@@ -9,8 +9,8 @@ fn main() {
         .index_size(2)
         .neighbor_neighbor_size(10)
         .threshold(0.25);
-    prove!(p.init_k == 2);
-    prove!(p.index_size == 2);
-    prove!(p.neighbor_neighbor_size == 10);
-    prove!(p.threshold == 0.25);
+    check::expect(p.init_k == 2);
+    check::expect(p.index_size == 2);
+    check::expect(p.neighbor_neighbor_size == 10);
+    check::expect(p.threshold == 0.25);
 }
