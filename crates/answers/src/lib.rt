@@ -7,7 +7,7 @@ ghost use Rattle.rules.specs.SearchCall.{search_said};
 ghost use Rattle.rules.specs.DescentCall.{iterate_said};
 ghost use Rattle.answers.specs.Answers.{code_in, found_in, iterated_in};
 
-use rules::{Answer, IterateAnswer, Refusal, SearchAnswer};
+use rules::{IterateCounts, Refusal, SearchCounts};
 
 /// A refusal by its number and two places; all 0 where there is none.
 #[repr(C)]
@@ -40,7 +40,8 @@ pub struct Iterated {
     pub total: usize,
 }
 
-fn refused(refusal: usize, first: usize, second: usize) -> Said
+// A refusal's number and places; all 0 where there is none.
+fn numbered(refusal: usize, first: usize, second: usize) -> Said
     ensures { code_in result ≡ code refusal first second }
 {
     Said {
@@ -51,82 +52,78 @@ fn refused(refusal: usize, first: usize, second: usize) -> Said
 }
 
 /// A refusal's number and places.
-pub fn of_refusal(r: Refusal) -> Said
-    ensures { code_in result ≡ code_of r }
-{
-    match r {
-        Refusal::Dimension => refused(1, 0, 0),
-        Refusal::Nodes => refused(2, 0, 0),
-        Refusal::Lanes => refused(3, 0, 0),
-        Refusal::Parameter => refused(4, 0, 0),
-        Refusal::Threshold => refused(5, 0, 0),
-        Refusal::Buffer => refused(6, 0, 0),
-        Refusal::Root(at) => refused(7, at, 0),
-        Refusal::Query => refused(8, 0, 0),
-        Refusal::Job(at) => refused(9, at, 0),
-        Refusal::Pair(i, j) => refused(10, i.0 as usize, j.0 as usize),
-        Refusal::Draws => refused(11, 0, 0),
-        Refusal::State => refused(12, 0, 0),
-        Refusal::Step(job) => refused(13, job, 0),
+impl From<Refusal> for Said {
+    ghost from_gives = { λ r s. code_in s ≡ code_of r };
+
+    #[tactic(auto, unfolding(rules::specs::Refusals::code_of))]
+    fn from(r: Refusal) -> Said {
+        match r {
+            Refusal::Dimension => numbered(1, 0, 0),
+            Refusal::Nodes => numbered(2, 0, 0),
+            Refusal::Lanes => numbered(3, 0, 0),
+            Refusal::Parameter => numbered(4, 0, 0),
+            Refusal::Threshold => numbered(5, 0, 0),
+            Refusal::Buffer => numbered(6, 0, 0),
+            Refusal::Root(at) => numbered(7, at, 0),
+            Refusal::Query => numbered(8, 0, 0),
+            Refusal::Job(at) => numbered(9, at, 0),
+            Refusal::Pair(i, j) => numbered(10, i.0 as usize, j.0 as usize),
+            Refusal::Draws => numbered(11, 0, 0),
+            Refusal::State => numbered(12, 0, 0),
+            Refusal::Step(job) => numbered(13, job, 0),
+        }
     }
 }
 
 /// What the answer of build, begin, open, a move or a close says.
-pub fn of_answer(a: Answer) -> Said
-    ensures { code_in result ≡ said_of a }
-{
-    match a {
-        Answer::Done => refused(0, 0, 0),
-        Answer::Refused(r) => of_refusal(r),
+impl From<Result<(), Refusal>> for Said {
+    ghost from_gives = { λ a s. code_in s ≡ said_of a };
+
+    #[tactic(auto, unfolding(rules::specs::Refusals::said_of))]
+    fn from(a: Result<(), Refusal>) -> Said {
+        match a {
+            Ok(()) => numbered(0, 0, 0),
+            Err(r) => Said::from(r),
+        }
     }
 }
 
 /// What a search's answer says.
-pub fn of_search(a: SearchAnswer) -> Found
-    ensures { found_in result ≡ search_said a }
-{
-    match a {
-        SearchAnswer::Found { m, takings } => Found {
-            refusal: 0,
-            first: 0,
-            second: 0,
-            m,
-            takings,
-        },
-        SearchAnswer::Refused(r) => {
-            let s = of_refusal(r);
-            Found {
-                refusal: s.refusal,
-                first: s.first,
-                second: s.second,
-                m: 0,
-                takings: 0,
-            }
+impl From<Result<SearchCounts, Refusal>> for Found {
+    ghost from_gives = { λ a s. found_in s ≡ search_said a };
+
+    #[tactic(auto, unfolding(rules::specs::SearchCall::search_said))]
+    fn from(a: Result<SearchCounts, Refusal>) -> Found {
+        let (s, counts) = match a {
+            Ok(counts) => (numbered(0, 0, 0), counts),
+            Err(r) => (Said::from(r), SearchCounts { m: 0, takings: 0 }),
+        };
+        Found {
+            refusal: s.refusal,
+            first: s.first,
+            second: s.second,
+            m: counts.m,
+            takings: counts.takings,
         }
     }
 }
 
 /// What an iteration's answer says.
-pub fn of_iterate(a: IterateAnswer) -> Iterated
-    ensures { iterated_in result ≡ iterate_said a }
-{
-    match a {
-        IterateAnswer::Iterated { cost, new } => Iterated {
-            refusal: 0,
-            first: 0,
-            second: 0,
-            cost,
-            total: new,
-        },
-        IterateAnswer::Refused(r) => {
-            let s = of_refusal(r);
-            Iterated {
-                refusal: s.refusal,
-                first: s.first,
-                second: s.second,
-                cost: 0,
-                total: 0,
-            }
+impl From<Result<IterateCounts, Refusal>> for Iterated {
+    ghost from_gives = { λ a s. iterated_in s ≡ iterate_said a };
+
+    #[tactic(auto, unfolding(rules::specs::DescentCall::iterate_said))]
+    fn from(a: Result<IterateCounts, Refusal>) -> Iterated {
+        let (s, counts) = match a {
+            Ok(counts) => (numbered(0, 0, 0), counts),
+            Err(r) => (Said::from(r), IterateCounts { cost: 0, new: 0 }),
+        };
+        Iterated {
+            refusal: s.refusal,
+            first: s.first,
+            second: s.second,
+            cost: counts.cost,
+            total: counts.new,
         }
     }
 }

@@ -2,17 +2,19 @@
 use mathlib.Core.Path.{◌≡◌, refl, sym, ap, ap₂, ◌∙◌}
 use mathlib.Core.Bool.{Bool, true, false, true≢false, false≢true, not, ◌&&◌, ◌||◌}
 use mathlib.Core.List.{List}
-use Prim.Native.Nat.{ℕ, zero, suc, ◌+◌, ◌*◌, ◌/◌, ◌%◌, ◌^◌, ◌<◌}
+use Prim.Native.Nat.{ℕ, zero, suc, ◌+◌, ◌-◌, ◌*◌, ◌/◌, ◌%◌, ◌^◌, ◌<◌}
 use native.Mathlib.Nat.{mod-lt, one-mul, div-one, div-eq_of_lt, div-add-mod', zero-lt-suc, le_refl}
 use native.Mathlib.Numerals.{add-one}
 use native.Mathlib.Omega.{arith}
 use borrow.Author.Tests.{eqb-true, eqb-false, eq-eqb, ne_eqb}
 use lib.Arith.{lt-one, digits_div, digits_mod}
-use lib.Bits.{bit_or, bit_xor, or_shr, or_mod, xor_shr, xor_mod, or_lt, xor_lt, shifted_half, shifted_even}
+use lib.Bits.{bit_and, bit_or, bit_xor, or_shr, or_mod, xor_shr, xor_mod, or_lt, xor_lt, shifted_half, shifted_even}
 use lib.Dec.{eqb, eqb-zero-suc, eqb-suc-zero, eqb-suc-suc}
 use lib.ListN.{length, get_or, set, length-set}
 use lib.Pow.{pow-lt, shl_exact, shr_lt, shr-shr}
 use lib.Seq.{get_or-set_same, get_or-set_other, ext_get_or}
+use Rattle.std.specs.Int.Bits.{or_add_and, xor_add_and}
+use Rattle.std.proofs.lemmas.Nat.{and_comm, and-not, and_or_self}
 use Rattle.rules.specs.DescentPlaces.{bit_at}
 use Rattle.bits.specs.Bits.{with_bit, set_bit, without_bit, clear_bit, Words}
 
@@ -21,6 +23,11 @@ pub shifted_one : (i : ℕ) → 1 * 2 ^ (i % 32) % 2 ^ 32 ≡ 2 ^ (i % 32)
 shifted_one i =
     let h : i % 32 < 32 = mod-lt i (zero-lt-suc 31) in
     shl_exact 1 (i % 32) 32 (le_refl 2) (omega arith) ∙ one-mul (2 ^ (i % 32))
+
+-- the code's & !m takes away what | m and then ^ m does
+pub and_not_is : (m w : ℕ) → m < 2 ^ 32 → w < 2 ^ 32 → bit_and w (2 ^ 32 - 1 - m) ≡ bit_xor (bit_or w m) m
+and_not_is m w h l =
+    omega (arith, and-not 32 m w h l, and_comm w (2 ^ 32 - 1 - m), and_comm w m, or_add_and w m, xor_add_and (bit_or w m) m, and_or_self m w)
 
 -- ---- one word
 

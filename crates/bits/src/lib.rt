@@ -6,6 +6,7 @@ ghost use Rattle.rules.specs.DescentPlaces.{bit_at};
 ghost use Rattle.bits.specs.Bits.{set_bit, clear_bit};
 
 /// Whether bit `i` is set: of word i / 32, bit i % 32 from the lowest.
+#[tactic(auto, unfolding(rules::specs::DescentPlaces::bit_at))]
 pub fn bit_at(words: &[u32], i: usize) -> bool
     requires { i / 32 < length words.now }
     ensures { result ≡ bit_at words.now i }
@@ -18,8 +19,7 @@ pub fn set_bit(words: &mut [u32], i: usize)
     requires { i / 32 < length words.old }
     ensures { words.new ≡ set_bit i words.old }
 {
-    let at = i / 32;
-    words[at] = words[at] | 1 << (i % 32);
+    words[i / 32] |= 1 << (i % 32);
 }
 
 /// Clears bit `i`.
@@ -27,7 +27,5 @@ pub fn clear_bit(words: &mut [u32], i: usize)
     requires { i / 32 < length words.old }
     ensures { words.new ≡ clear_bit i words.old }
 {
-    let at = i / 32;
-    let bit: u32 = 1 << (i % 32);
-    words[at] = (words[at] | bit) ^ bit;
+    words[i / 32] &= !(1 << (i % 32));
 }

@@ -1,8 +1,8 @@
 -- What a call's contract says of the rules: the states that calls leave are those that the rules leave. Assumes nothing.
 use mathlib.Core.Path.{◌≡◌, refl, ap, ◌∙◌}
 use mathlib.Core.List.{List, [], ◌∷◌, ◌++◌}
-use Rattle.rules.specs.declared.Answer.{Answer}
-use Rattle.rules.specs.declared.Answer.TheVariants as answer
+use Rattle.std.specs.Prelude.{Ok, Err}
+use Rattle.rules.specs.Answers.{Answer}
 use Rattle.rules.specs.declared.Refusal.{Refusal}
 use Rattle.rules.specs.Loops.{through}
 use Rattle.rules.specs.Refusals.{code_of, no_refusal, said_of}
@@ -16,13 +16,13 @@ use Rattle.relay_close.specs.Close as close
 use Rattle.demand3.specs.Relayed.{Move, Made, last, order, Relayed}
 
 -- an answer is known by what it says
-pub is-done : (a : Answer) → said_of a ≡ no_refusal → a ≡ answer.Done
+pub is-done : (a : Answer) → said_of a ≡ no_refusal → a ≡ (Ok tt)
 unfolding said_of
-is-done a h = same_answer a answer.Done h
+is-done a h = same_answer a (Ok tt) h
 
-pub is-refused : (a : Answer) (r : Refusal) → said_of a ≡ code_of r → a ≡ answer.Refused r
+pub is-refused : (a : Answer) (r : Refusal) → said_of a ≡ code_of r → a ≡ Err r
 unfolding said_of
-is-refused a r h = same_answer a (answer.Refused r) h
+is-refused a r h = same_answer a (Err r) h
 
 -- a call lent the state s meets its contract
 abbrev pub Meets : OpenLent → State → Move → Type 0

@@ -1,9 +1,8 @@
 -- Demand 3 of the calls: a relay opened, moved and closed by calls of which each meets its entry's contract and nothing else is known, and what the
 -- request says of the bytes that were handed back. The sentences are quoted in crates/orders/specs/Demand3.antt, which says the same of the rules. Assumes nothing.
-use Rattle.std.specs.Prelude.{◌≡◌, false, List, [], ◌∷◌, ◌++◌, ℕ, ◌+◌, ◌*◌, ◌≤◌, ◌<◌, eqb, get_or, Float}
+use Rattle.std.specs.Prelude.{Ok, Err, ◌≡◌, false, List, [], ◌∷◌, ◌++◌, ℕ, ◌+◌, ◌*◌, ◌≤◌, ◌<◌, eqb, get_or, Float}
 use Rattle.rules.specs.declared.Neighbor.{Neighbor}
-use Rattle.rules.specs.declared.Answer.{Answer}
-use Rattle.rules.specs.declared.Answer.TheVariants as answer
+use Rattle.rules.specs.Answers.{Answer}
 use Rattle.rules.specs.declared.Refusal.TheVariants as refusal
 use Rattle.rules.specs.Lists.{neighbor, least}
 use Rattle.rules.specs.Descent.{list_at}
@@ -70,16 +69,16 @@ pub record HandedBack (l : OpenLent) (nodes : List ℕ) (distances : List Float)
 
 pub record Demand3Calls (l : OpenLent) : Type 0 where
   -- "Open .."
-  pub opens : (ms : List Move) (room : Room l) (r : Relayed l ms room) → r.opening ≡ answer.Done
+  pub opens : (ms : List Move) (room : Room l) (r : Relayed l ms room) → r.opening ≡ Ok tt
   -- "Let the pairs take their eight locked steps in any order, each pair's own steps in sequence": whatever was called before, a move of a pair is answered
   -- eight times, and refused from then on
   pub moves : (before : List Move) (m : Move) (behind : List Move) (room : Room l) → Relayed l (before ++ (m ∷ behind)) room → m.job < pairs l → count m.job (order before) < 8
-      → m.answer ≡ answer.Done
+      → m.answer ≡ Ok tt
   pub is_over : (before : List Move) (m : Move) (behind : List Move) (room : Room l) → Relayed l (before ++ (m ∷ behind)) room → m.job < pairs l → 8 ≤ count m.job (order before)
-      → m.answer ≡ answer.Refused (refusal.Step m.job)
+      → m.answer ≡ Err (refusal.Step m.job)
   -- "When all are finished", and no sooner, close answers
-  pub closes : (ms : List Move) (room : Room l) (r : Relayed l ms room) → Finishes l (order ms) → r.closing ≡ answer.Done
-  pub no_sooner : (ms : List Move) (room : Room l) (r : Relayed l ms room) → r.closing ≡ answer.Done → Finishes l (order ms)
+  pub closes : (ms : List Move) (room : Room l) (r : Relayed l ms room) → Finishes l (order ms) → r.closing ≡ Ok tt
+  pub no_sooner : (ms : List Move) (room : Room l) (r : Relayed l ms room) → r.closing ≡ Ok tt → Finishes l (order ms)
   pub handed_back : (ms : List Move) (room : Room l) (r : Relayed l ms room) → Finishes l (order ms) → HandedBack l r.nodes r.distances r.reports
   -- "So no order of the heads changes a list."
   pub same_nodes : (ms others : List Move) (room other : Room l) (r : Relayed l ms room) (s : Relayed l others other) → Finishes l (order ms) → Finishes l (order others) → r.nodes ≡ s.nodes

@@ -9,8 +9,8 @@ use borrow.Author.Tests.{ltb-true}
 use lib.Dec.{ltb}
 use lib.ListN.{length, take, get_or, replicate, length-replicate, length-map, length-take}
 use lib.Ieee.{Float, binary32, to_bits, lt}
-use Rattle.rules.specs.declared.Distance.{Distance}
-use Rattle.rules.specs.declared.Distance.TheVariants.{Fit}
+use Rattle.std.specs.Prelude.{Some, None}
+use Rattle.rules.specs.Answers.{Distance}
 use Rattle.rules.specs.declared.Neighbor.{Neighbor}
 use Rattle.rules.specs.Loops.{through, has}
 use Rattle.rules.specs.Distance.{zero32, query_apart}
@@ -225,7 +225,7 @@ module _ (apart : ℕ → Distance) (n : ℕ) (fit_answers : FitAnswers apart) w
         measured = B.measured;
       }
 
-  nearer : (best : List Neighbor) (v : ℕ) (x : Float) → Holdable (farthest best) → apart v ≡ Fit x → lt x (farthest best) ≡ true → Nearest apart best v → has v (nodes_of best) ≡ true
+  nearer : (best : List Neighbor) (v : ℕ) (x : Float) → Holdable (farthest best) → apart v ≡ Some x → lt x (farthest best) ≡ true → Nearest apart best v → has v (nodes_of best) ≡ true
   nearer best v x F q h N = go (N x q)
     where
       go : (has v (nodes_of best) ≡ true) ⊎ (to_bits binary32 (farthest best) ≤ to_bits binary32 x) → has v (nodes_of best) ≡ true

@@ -10,8 +10,8 @@ use lib.Dec.{eqb}
 use lib.ListN.{length, take, drop, get_or, length-take, take-append-drop}
 use lib.Seq.{take_all, take-suc}
 use lib.Ieee.{Float, binary32, to_bits, lt}
-use Rattle.rules.specs.declared.Distance.{Distance}
-use Rattle.rules.specs.declared.Distance.TheVariants.{Fit}
+use Rattle.std.specs.Prelude.{Some, None}
+use Rattle.rules.specs.Answers.{Distance}
 use Rattle.rules.specs.declared.Neighbor.{Neighbor}
 use Rattle.rules.specs.Loops.{has}
 use Rattle.rules.specs.Distance.{before, zero32, carried}
@@ -39,7 +39,7 @@ pub record Best (apart : ℕ → Distance) (n m : ℕ) (xs : List Neighbor) : Ty
 
 -- a node that is in the best set, or no nearer than its farthest
 abbrev pub Nearest : (ℕ → Distance) → List Neighbor → ℕ → Type 0
-Nearest apart best v = (x : Float) → apart v ≡ Fit x → (has v (nodes_of best) ≡ true) ⊎ (to_bits binary32 (farthest best) ≤ to_bits binary32 x)
+Nearest apart best v = (x : Float) → apart v ≡ Some x → (has v (nodes_of best) ≡ true) ⊎ (to_bits binary32 (farthest best) ≤ to_bits binary32 x)
 
 -- what the entries of a row leave of the best set of t
 pub record Ended (apart : ℕ → Distance) (n m : ℕ) (es : List Neighbor) (t u : Taken) : Type 0 where
@@ -77,7 +77,7 @@ last_of v xs h a b =
 
 -- ---- distances by their bits
 
-pub same-distance : (d : Distance) (x y : Float) → d ≡ Fit x → d ≡ Fit y → x ≡ y
+pub same-distance : (d : Distance) (x y : Float) → d ≡ Some x → d ≡ Some y → x ≡ y
 unfolding carried
 same-distance d x y p q = ap carried (sym p ∙ q)
 

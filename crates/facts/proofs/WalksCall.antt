@@ -7,8 +7,8 @@ use native.Mathlib.Omega.{arith}
 use lib.ListN.{length, take, drop, length-map}
 use lib.Seq.{take_all, take_at, drop_at}
 use lib.Ieee.{Float, binary32, to_bits}
+use Rattle.std.specs.Prelude.{Ok, Err}
 use Rattle.rules.specs.declared.Neighbor.{Neighbor}
-use Rattle.rules.specs.declared.SearchAnswer.TheVariants.{Found}
 use Rattle.rules.specs.Loops.{over}
 use Rattle.rules.specs.Lists.{node_of, nodes_of, bits_of}
 use Rattle.rules.specs.Rows.{graph_row}
@@ -80,7 +80,7 @@ module _ (l : SearchLent) where
       }
 
   module _ (m takings : ℕ) where
-    found-walk : (g : Going Walk) → Ready l → walking ≡ g → search_said (Found m takings) ≡ (search_ends l g).said → FoundAnswer l m takings (search_ends l g)
+    found-walk : (g : Going Walk) → Ready l → walking ≡ g → search_said (Ok (record { m = m; takings = takings })) ≡ (search_ends l g).said → FoundAnswer l m takings (search_ends l g)
     unfolding search_said search_ends search_zeroed
     found-walk (on s) R e h =
         subst (λ (i : ℕ). FoundAnswer l i takings (search_ends l (on s))) (sym (ap (λ (x : SearchSaid). x.m) h))
@@ -88,11 +88,11 @@ module _ (l : SearchLent) where
     found-walk (unfit_at v) R e h = let z : ◌≡◌ {A = ℕ} 0 10 = ap (λ (x : SearchSaid). x.code.number) h in absurd (omega arith)
 
     -- only a walk that ended answers Found
-    pub found : search_said (Found m takings) ≡ (search_rule l).said → FoundAnswer l m takings (search_rule l)
+    pub found : search_said (Ok (record { m = m; takings = takings })) ≡ (search_rule l).said → FoundAnswer l m takings (search_rule l)
     unfolding search_rule search_obeys search_work search_said
     found h = go (decide (search_table l)) refl h
       where
-        go : (d : Decision) → decide (search_table l) ≡ d → search_said (Found m takings) ≡ (search_obeys l d).said → FoundAnswer l m takings (search_obeys l d)
+        go : (d : Decision) → decide (search_table l) ≡ d → search_said (Ok (record { m = m; takings = takings })) ≡ (search_obeys l d).said → FoundAnswer l m takings (search_obeys l d)
         go passed e h = found-walk walking (ready l e) refl h
         go (refused c) e h =
             let some = numbered (search_table l) (table_numbered l) c e in
@@ -100,6 +100,6 @@ module _ (l : SearchLent) where
             absurd (omega arith)
 
     -- the same of what the entry answers and leaves
-    pub entry_found : (nodes bits su : List ℕ) (sf : List Float) → Searched l (Found m takings) nodes bits su sf → FoundAnswer l m takings (search_left (Found m takings) nodes bits su sf)
+    pub entry_found : (nodes bits su : List ℕ) (sf : List Float) → Searched l (Ok (record { m = m; takings = takings })) nodes bits su sf → FoundAnswer l m takings (search_left (Ok (record { m = m; takings = takings })) nodes bits su sf)
     entry_found nodes bits su sf S =
         subst (FoundAnswer l m takings) (sym S.whole) (found (ap (λ (o : SearchOutcome). o.said) S.whole))

@@ -7,8 +7,8 @@ use native.Mathlib.Omega.{arith}
 use lib.Dec.{eqb}
 use lib.ListN.{length}
 use lib.Ieee.{Float}
-use Rattle.rules.specs.declared.Distance.{Distance}
-use Rattle.rules.specs.declared.Distance.TheVariants.{Fit, Unfit}
+use Rattle.std.specs.Prelude.{Some, None}
+use Rattle.rules.specs.Answers.{Distance}
 use Rattle.rules.specs.declared.Neighbor.{Neighbor}
 use Rattle.rules.specs.Loops.{has}
 use Rattle.rules.specs.Lists.{neighbor, node_of, nodes_of, insert}
@@ -51,15 +51,15 @@ whenever_weaker P Q f (on a) h = f a h
 whenever_weaker P Q f (unfit_at v) h = tt
 
 module _ (apart : ℕ → Distance) (n : ℕ) (fine : Answers apart) where
-  measured-insert : (v : ℕ) (x : Float) (es : List Neighbor) → v < n → apart v ≡ Fit x → All (Measured apart n) es → All (Measured apart n) (insert (neighbor v x) es)
+  measured-insert : (v : ℕ) (x : Float) (es : List Neighbor) → v < n → apart v ≡ Some x → All (Measured apart n) es → All (Measured apart n) (insert (neighbor v x) es)
   measured-insert v x es b q M = all_perm (Measured apart n) (insert-is_perm (neighbor v x) es) (record { below = b; distance = q }, M)
 
-  ascends-insert : (v : ℕ) (x : Float) (es : List Neighbor) → apart v ≡ Fit x → All (Measured apart n) es → Ascending es → Ascending (insert (neighbor v x) es)
+  ascends-insert : (v : ℕ) (x : Float) (es : List Neighbor) → apart v ≡ Some x → All (Measured apart n) es → Ascending es → Ascending (insert (neighbor v x) es)
   ascends-insert v x es q M A = ascending-insert (neighbor v x) es (fine v x q) (held apart n fine es M) A
 
   -- ---- a row
 
-  fresh-more : (before : List ℕ) (v : ℕ) (x : Float) (f : Found) → v < n → apart v ≡ Fit x → is_seen v f.seen ≡ false → Fresh apart n before f
+  fresh-more : (before : List ℕ) (v : ℕ) (x : Float) (f : Found) → v < n → apart v ≡ Some x → is_seen v f.seen ≡ false → Fresh apart n before f
       → Fresh apart n before (record { seen = mark v f.seen; entries = insert (neighbor v x) f.entries; worked = suc f.worked })
   unfolding nodes_of
   fresh-more before v x f b q e F =
@@ -89,8 +89,8 @@ module _ (apart : ℕ → Distance) (n : ℕ) (fine : Answers apart) where
       go : (s : Bool) (d : Distance) → is_seen v f.seen ≡ s → apart v ≡ d
           → Whenever (Fresh apart n before) (cond s (on f) (and_then (works_out apart v f.entries d) (λ (es : List Neighbor). on (record { seen = mark v f.seen; entries = es; worked = suc f.worked }))))
       go true d e q = F
-      go false (Fit x) e q = fresh-more before v x f b q e F
-      go false Unfit e q = tt
+      go false (Some x) e q = fresh-more before v x f b q e F
+      go false None e q = tt
 
   pub fresh-visits : (before : List ℕ) (vs : List ℕ) (f : Found) → AllBelow n vs → Fresh apart n before f → Whenever (Fresh apart n before) (visits apart vs f)
   unfolding visits AllBelow Whenever
@@ -116,7 +116,7 @@ module _ (apart : ℕ → Distance) (n : ℕ) (fine : Answers apart) where
     where
       go : (d : Distance) → apart v ≡ d → ((fs : List Neighbor) → All (Measured apart n) fs → Ascending fs → Whenever (Sorted apart n vs fs) (roots_found apart vs fs))
           → Whenever (Sorted apart n (v ∷ vs) es) (and_then (works_out apart v es d) (roots_found apart vs))
-      go (Fit x) q ih =
+      go (Some x) q ih =
           whenever_weaker (Sorted apart n vs (insert (neighbor v x) es)) (Sorted apart n (v ∷ vs) es) (sorted_more v x vs es) (roots_found apart vs (insert (neighbor v x) es))
           (ih (insert (neighbor v x) es) (measured-insert v x es b.0 q M) (ascends-insert v x es q M A))
-      go Unfit q ih = tt
+      go None q ih = tt

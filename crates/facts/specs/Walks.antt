@@ -1,9 +1,8 @@
 -- What a search that meets no unfit distance leaves, over any distance to the query whose answers are fit. Assumes nothing.
-use Rattle.std.specs.Prelude.{◌≡◌, true, List, ℕ, ◌≤◌, ◌<◌, min, T, length, get_or, Float}
+use Rattle.std.specs.Prelude.{Some, None, ◌≡◌, true, List, ℕ, ◌≤◌, ◌<◌, min, T, length, get_or, Float}
 use Rattle.std.specs.Float.{binary32}
 use Rattle.std.specs.Float.Ieee.{fits, lt}
-use Rattle.rules.specs.declared.Distance.{Distance}
-use Rattle.rules.specs.declared.Distance.TheVariants.{Fit}
+use Rattle.rules.specs.Answers.{Distance}
 use Rattle.rules.specs.declared.Neighbor.{Neighbor}
 use Rattle.rules.specs.Loops.{has}
 use Rattle.rules.specs.Distance.{fit}
@@ -17,13 +16,13 @@ use Rattle.facts.specs.Rising.{rising}
 
 -- a distance to the query: what its answers carry is in binary32, and "its bits, as a whole number, are at most 0x7F7FFFFE"
 pub record FitAnswers (apart : ℕ → Distance) : Type 0 where
-  pub single : (v : ℕ) (x : Float) → apart v ≡ Fit x → T (fits binary32 x)
-  pub fits : (v : ℕ) (x : Float) → apart v ≡ Fit x → fit x ≡ true
+  pub single : (v : ℕ) (x : Float) → apart v ≡ Some x → T (fits binary32 x)
+  pub fits : (v : ℕ) (x : Float) → apart v ≡ Some x → fit x ≡ true
 
 -- an entry: a node below n, with its distance to the query
 pub record Measured (apart : ℕ → Distance) (n : ℕ) (e : Neighbor) : Type 0 where
   pub below : node_of e < n
-  pub distance : apart (node_of e) ≡ Fit e.distance
+  pub distance : apart (node_of e) ≡ Some e.distance
 
 -- "Answer: the best set, nearest first"
 pub record BestSet (apart : ℕ → Distance) (n m : ℕ) (best : List Neighbor) : Type 0 where
@@ -46,4 +45,4 @@ pub record Walked (apart : ℕ → Distance) (n k : ℕ) (roots : List ℕ) (s :
   pub works : s.worked ≤ n
   pub roots_seen : (i : ℕ) → i < length roots → is_seen (get_or roots i 0) s.seen ≡ true
   -- no node whose distance was worked out is nearer than the farthest best, unless it is in the best set
-  pub nearest : (v : ℕ) (x : Float) → v < n → is_seen v s.seen ≡ true → apart v ≡ Fit x → lt x (farthest s.best) ≡ true → has v (nodes_of s.best) ≡ true
+  pub nearest : (v : ℕ) (x : Float) → v < n → is_seen v s.seen ≡ true → apart v ≡ Some x → lt x (farthest s.best) ≡ true → has v (nodes_of s.best) ≡ true

@@ -1,8 +1,7 @@
 -- What a search that answers Found leaves in the results. Assumes nothing.
-use Rattle.std.specs.Prelude.{◌≡◌, true, List, ℕ, ◌≤◌, ◌<◌, min, length, take, drop, get_or, Float}
+use Rattle.std.specs.Prelude.{Some, None, ◌≡◌, true, List, ℕ, ◌≤◌, ◌<◌, min, length, take, drop, get_or, Float}
 use Rattle.std.specs.Float.Ieee.{lt}
-use Rattle.rules.specs.declared.Distance.{Distance}
-use Rattle.rules.specs.declared.Distance.TheVariants.{Fit}
+use Rattle.rules.specs.Answers.{Distance}
 use Rattle.rules.specs.declared.Neighbor.{Neighbor}
 use Rattle.rules.specs.Loops.{has}
 use Rattle.rules.specs.Distance.{query_apart}
@@ -28,4 +27,4 @@ pub record FoundAnswer (l : SearchLent) (m takings : ℕ) (o : SearchOutcome) : 
   pub nodes_rest : drop m o.result_nodes ≡ drop m l.result_nodes
   pub bits_rest : drop m o.result_bits ≡ drop m l.result_bits
   -- no root is nearer than the farthest of the answer, unless it is in it
-  pub roots : (i : ℕ) (x : Float) → i < length l.roots → to_query l (get_or l.roots i 0) ≡ Fit x → lt x (farthest best) ≡ true → has (get_or l.roots i 0) (nodes_of best) ≡ true
+  pub roots : (i : ℕ) (x : Float) → i < length l.roots → to_query l (get_or l.roots i 0) ≡ Some x → lt x (farthest best) ≡ true → has (get_or l.roots i 0) (nodes_of best) ≡ true

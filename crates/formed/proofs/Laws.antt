@@ -3,14 +3,15 @@ use mathlib.Core.Path.{◌≡◌, refl, sym, ap, ◌∙◌}
 use mathlib.Core.Bool.{Bool, true, false, cond, not, ◌&&◌}
 use mathlib.Core.List.{List, [], ◌∷◌, ◌++◌}
 use Prim.Native.Nat.{ℕ, zero, suc, ◌+◌, ◌-◌, ◌*◌, ◌≤◌, ◌<◌}
-use native.Mathlib.Nat.{suc-mul, mul-le-mul_right, mul-le-mul, not-suc-le-zero}
+use native.Mathlib.Nat.{not-suc-le-zero}
 use native.Mathlib.Numerals.{add-one}
 use native.Mathlib.Omega.{arith}
-use borrow.Author.Tests.{eq-eqb, ne_eqb, lt-ltb, le-ltb, ltb-true, ltb-false}
-use lib.Dec.{eqb, ltb, leb}
-use lib.ListN.{length, take, drop, get_or, drop_of_length-le, length-drop}
+use borrow.Author.Tests.{ltb-true, ltb-false}
+use lib.Dec.{eqb, ltb}
+use lib.ListN.{length, take, drop, get_or, length-drop}
 use lib.Seq.{drop-cons}
-use lib.Ieee.{Float, nan, binary32, to_bits}
+use lib.Ieee.{Float, nan, inf, fin, binary32, is_nan, to_bits}
+use Rattle.std.specs.List.{list_all, zip}
 use Rattle.rules.specs.declared.Neighbor.{Neighbor}
 use Rattle.rules.specs.Loops.{each, part}
 use Rattle.rules.specs.Distance.{before, fit}
@@ -22,42 +23,25 @@ use Rattle.lists.proofs.Slices.{length-entries, get_d_entries}
 
 -- ---- one entry
 
-pub entry-nan : (n : ℕ) (e : Neighbor) → e.distance ≡ nan → entry_formed n e ≡ false
-unfolding entry_formed fit to_bits
-entry-nan n e h = rw h (go (eqb (node_of e) n) (ltb (node_of e) n))
+pub entry_nan : (n : ℕ) (e : Neighbor) → is_nan e.distance ≡ true → entry_formed n e ≡ false
+unfolding entry_formed fit to_bits is_nan
+entry_nan n e h = go e.distance h (eqb (node_of e) n) (ltb (node_of e) n)
   where
-    go : (a b : Bool) → cond a false (b && false) ≡ false
-    go true b = refl
-    go false true = refl
-    go false false = refl
+    go : (x : Float) → is_nan x ≡ true → (a b : Bool) → cond a (eqb (to_bits binary32 x) empty_bits) (b && fit x) ≡ false
+    go nan h true b = refl
+    go nan h false true = refl
+    go nan h false false = refl
+    go (inf s) h a b = cc
+    go (fin s m d) h a b = cc
 
-module _ (n : ℕ) (e : Neighbor) where
-  pub entry_empty : node_of e ≡ n → entry_formed n e ≡ eqb (to_bits binary32 e.distance) empty_bits
-  unfolding entry_formed
-  entry_empty h = rw (eq-eqb (node_of e) n h)
+-- ---- entries: one test for each pair of two slices
 
-  pub entry_high : n < node_of e → entry_formed n e ≡ false
-  unfolding entry_formed
-  entry_high h = rw (ne_eqb (node_of e) n (λ q. omega arith), le-ltb (node_of e) n (omega arith))
-
-  pub entry-low : node_of e < n → entry_formed n e ≡ leb (to_bits binary32 e.distance) 0x7F7FFFFE
-  unfolding entry_formed fit
-  entry-low h = rw (ne_eqb (node_of e) n (λ q. omega arith), lt-ltb (node_of e) n h)
-
--- ---- entries: at place i
-
-module _ (n : ℕ) (l : List Neighbor) (i : ℕ) (z : Neighbor) where
-  pub formed-not : i < length l → entry_formed n (get_or l i z) ≡ false → entries_formed n (drop i l) ≡ false
-  unfolding entries_formed
-  formed-not h f = rw (drop-cons l i z, f)
-
-  pub formed_turn : i < length l → entry_formed n (get_or l i z) ≡ true → entries_formed n (drop (i + 1) l) ≡ entries_formed n (drop i l)
-  unfolding entries_formed
-  formed_turn h f = rw (add-one, drop-cons l i z, f)
-
-  pub formed-end : length l ≤ i → entries_formed n (drop i l) ≡ true
-  unfolding entries_formed
-  formed-end h = ap (entries_formed n) (drop_of_length-le l {i = i} h)
+pub entries_all : (n len : ℕ) (ns : List ℕ) (ds : List Float) → list_all (λ (p : ℕ × Float). entry_formed n (neighbor p.0 p.1)) (zip (take len ns) (take len ds)) ≡ entries_formed n (entries len ns ds)
+unfolding entries entries_formed
+entries_all n zero ns ds = refl
+entries_all n (suc i) [] ds = refl
+entries_all n (suc i) (a ∷ ns) [] = refl
+entries_all n (suc i) (a ∷ ns) (d ∷ ds) = ap (λ (b : Bool). entry_formed n (neighbor a d) && b) (entries_all n i ns ds)
 
 -- ---- ascending: at place i, which must not precede the one in front of it
 
@@ -93,21 +77,6 @@ module _ (n : ℕ) (ns : List ℕ) (ds : List Float) (len : ℕ) (h : len ≤ le
   read : (j : ℕ) → j < len → get_or E j (neighbor 0 nan) ≡ at j
   read j l = get_d_entries len j ns ds 0 nan (neighbor 0 nan) l h g
 
-  pub entries-not : entries_formed n (drop i E) ≡ entries_formed n E → i < len → entry_formed n (at i) ≡ false → false ≡ entries_formed n E
-  entries-not inv l e =
-      let long = length-entries len ns ds h g in
-      sym (formed-not n E i (neighbor 0 nan) (omega arith) (ap (entry_formed n) (read i l) ∙ e)) ∙ inv
-
-  pub entries_turn : entries_formed n (drop i E) ≡ entries_formed n E → i < len → entry_formed n (at i) ≡ true → entries_formed n (drop (i + 1) E) ≡ entries_formed n E
-  entries_turn inv l e =
-      let long = length-entries len ns ds h g in
-      formed_turn n E i (neighbor 0 nan) (omega arith) (ap (entry_formed n) (read i l) ∙ e) ∙ inv
-
-  pub entries-end : entries_formed n (drop i E) ≡ entries_formed n E → len ≤ i → true ≡ entries_formed n E
-  entries-end inv l =
-      let long = length-entries len ns ds h g in
-      sym (formed-end n E i (neighbor 0 nan) (omega arith)) ∙ inv
-
   pub in_order_lem : (b : Bool) → ascending (drop (i - 1) E) ≡ ascending E → 1 ≤ i → i < len → before (at i) (at (i - 1)) ≡ b → ascending E ≡ (not b && ascending (drop (i + 1 - 1) E))
   in_order_lem b inv some l e =
       let long = length-entries len ns ds h g in
@@ -121,14 +90,6 @@ module _ (n : ℕ) (ns : List ℕ) (ds : List Float) (len : ℕ) (h : len ≤ le
       sym (ascending-end E i (omega arith)) ∙ inv
 
 -- ---- a list
-
-pub list_by_entries : (n : ℕ) (l : List Neighbor) → ascending l ≡ true → entries_formed n l ≡ list_formed n l
-unfolding list_formed
-list_by_entries n l h = rw h
-
-pub list-not : (n : ℕ) (l : List Neighbor) → ascending l ≡ false → false ≡ list_formed n l
-unfolding list_formed
-list-not n l h = rw h
 
 -- ---- lists one behind the other: those in front of the w-th are well formed
 
@@ -166,18 +127,6 @@ module _ (n : ℕ) (g : ℕ → List Neighbor) where
           let same : m ≡ w = omega arith in
           let f : list_formed n (g m) ≡ false = ap (λ (i : ℕ). list_formed n (g i)) same ∙ e in
           rw f (and-false (lists_formed n (lists_of m)))
-
--- where the w-th list of k lies
-pub record Where (k w room : ℕ) : Type 0 where
-  pub inside : w * k + k ≤ room
-  pub small : w * k ≤ 262144
-
-pub where_is : (n k w room : ℕ) → w < n → n ≤ 4096 → k ≤ 64 → n * k ≤ room → Where k w room
-where_is n k w room h few wide fits =
-    let step = suc-mul w k in
-    let within : suc w * k ≤ n * k = mul-le-mul_right k h in
-    let product : n * k ≤ 4096 * 64 = mul-le-mul few wide in
-    record { inside = omega arith; small = omega arith }
 
 module _ (n k : ℕ) (ns : List ℕ) (ds : List Float) where
   abbrev pub list_in : ℕ → List Neighbor

@@ -8,8 +8,8 @@ use lib.Dec.{T, ltb}
 use lib.ListN.{length, get_or}
 use lib.Ieee.{Float, nan}
 use borrow.Author.Tests.{ltb-true, ltb-false, not-true}
-use Rattle.rules.specs.declared.Distance.{Distance}
-use Rattle.rules.specs.declared.Distance.TheVariants.{Fit, Unfit}
+use Rattle.std.specs.Prelude.{Some, None}
+use Rattle.rules.specs.Answers.{Distance}
 use Rattle.rules.specs.Distance.{total_of, zero32, fit, answer, unfit, distance_of, lanes_of, nodes_apart}
 use Rattle.rules.specs.Refusals.{passed, decide, row10, unfit_after, first_unfit}
 use Rattle.rules.proofs.Loops.{first-from, first_holds}
@@ -28,7 +28,7 @@ fit_apart : (x : Float) → fit x ≡ not (unfit (answer x))
 unfolding answer unfit
 fit_apart x = go (fit x)
   where
-    go : (b : Bool) → b ≡ not (unfit (cond b (Fit x) Unfit))
+    go : (b : Bool) → b ≡ not (unfit (cond b (Some x) None))
     go true = refl
     go false = refl
 

@@ -1,7 +1,7 @@
 -- A block of eight nodes: lane l of the t-th at place 8l + t. Its totals, and pairs that are fit. Assumes nothing.
 use Rattle.std.specs.Prelude.{◌≡◌, Bool, cond, not, List, [], ◌∷◌, ℕ, ◌+◌, ◌-◌, ◌*◌, ◌<◌, ltb, length, get_or, Float}
 use Rattle.std.specs.Float.{nan}
-use Rattle.rules.specs.declared.Distance.{Distance}
+use Rattle.rules.specs.Answers.{Distance}
 use Rattle.rules.specs.Loops.{each}
 use Rattle.rules.specs.Distance.{lane, total_of, zero32, fit, unfit, lanes_of}
 use Rattle.zeros.specs.Zeros.{all_below}

@@ -137,15 +137,17 @@ module _ {ns : List ℕ} {ds : List Float} {len : ℕ} {e : Neighbor} {i : ℕ} 
             ∙ add-suc i (place e (drop (suc i) E)) ∙ sym (suc-add i (place e (drop (suc i) E))));
       }
 
-  pub passed-end : len ≤ i → PlaceFound ns ds len e i
+  pub passed-end : len ≤ i → PlaceFound ns ds len e len
   passed-end l =
       let E = entries len ns ds in
       let long = length-entries len ns ds h k in
+      let within = inv.within in
+      let all : len ≡ i = omega arith in
       record {
         at =
-            sym (inv.left ∙ ap (λ (l : List Neighbor). i + place e l) (drop_of_length-le E {i = i} (omega arith))
+            all ∙ sym (inv.left ∙ ap (λ (l : List Neighbor). i + place e l) (drop_of_length-le E {i = i} (omega arith))
             ∙ ap (λ (n : ℕ). i + n) (place-nil e) ∙ add-zero i);
-        within = inv.within;
+        within = omega arith;
       }
 
 -- ---- a place is made free, from the end down

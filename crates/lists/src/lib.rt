@@ -1,28 +1,35 @@
 // Ascending lists of entries, each in the front of two lent slices: node numbers in one, distances in the other.
 #![tactic(auto)]
 
-ghost use Rattle.std.specs.Prelude.{◌≡◌, ◌≤◌, ◌<◌, length};
+ghost use Rattle.std.specs.Prelude.{◌≡◌, ◌≤◌, ◌<◌, length, get_or};
+ghost use Rattle.std.specs.Float.{nan};
+ghost use Rattle.rules.specs.Lists.{neighbor};
 ghost use Rattle.lists.specs.Lists.{hole, PlaceFound, PushedCut, Pushed, Popped, SortedIn};
 
 use rules::{Neighbor, NodeId};
+
+/// The entry at place `i`.
+pub fn entry_at(nodes: &[u32], dists: &[f32], i: usize) -> Neighbor
+    requires { (i < length nodes.now) × (i < length dists.now) }
+    ensures { result ≡ neighbor (get_or nodes.now i 0) (get_or dists.now i nan) }
+{
+    Neighbor {
+        node: NodeId(nodes[i]),
+        distance: dists[i],
+    }
+}
 
 /// The place of `e` in the list of the first `len` entries: how many stand in front of the first that `e` precedes.
 pub fn place_of(nodes: &[u32], dists: &[f32], len: usize, e: Neighbor) -> usize
     requires { (len ≤ length nodes.now) × (len ≤ length dists.now) }
     ensures { PlaceFound nodes.now dists.now len e result }
 {
-    let mut i = 0;
-    while i < len {
-        let x = Neighbor {
-            node: NodeId(nodes[i]),
-            distance: dists[i],
-        };
-        if neighbor::precedes(e, x) {
+    for i in 0..len {
+        if neighbor::precedes(e, entry_at(nodes, dists, i)) {
             return i;
         }
-        i += 1;
     }
-    i
+    len
 }
 
 // Moves what stands from `p` up to `last` up by one place, so that `p` is free; what stood at `last` is lost.
@@ -31,12 +38,9 @@ fn shift_up(nodes: &mut [u32], dists: &mut [f32], p: usize, last: usize)
     ensures nodes_after { nodes.new ≡ hole p last nodes.old }
     ensures dists_after { dists.new ≡ hole p last dists.old }
 {
-    let mut i = last;
-    while p < i {
-        let j = i - 1;
-        nodes[i] = nodes[j];
-        dists[i] = dists[j];
-        i = j;
+    for i in (p..last).rev() {
+        nodes[i + 1] = nodes[i];
+        dists[i + 1] = dists[i];
     }
 }
 
@@ -51,13 +55,9 @@ pub fn push_cut(nodes: &mut [u32], dists: &mut [f32], len: usize, k: usize, e: N
     if k <= p {
         return len;
     }
-    let mut last = len;
-    if k <= len {
-        last = k - 1;
-    }
+    let last = len.min(k - 1);
     shift_up(nodes, dists, p, last);
-    let n = e.node;
-    nodes[p] = n.0;
+    nodes[p] = e.node.0;
     dists[p] = e.distance;
     last + 1
 }
@@ -87,12 +87,8 @@ pub fn sort(nodes: &mut [u32], dists: &mut [f32], len: usize)
     requires { (len ≤ length nodes.old) × (len ≤ length dists.old) }
     ensures { SortedIn nodes.old dists.old len nodes.new dists.new }
 {
-    let mut done = 0;
-    while done < len {
-        let e = Neighbor {
-            node: NodeId(nodes[done]),
-            distance: dists[done],
-        };
-        done = push(nodes, dists, done, e);
+    for done in 0..len {
+        let e = entry_at(nodes, dists, done);
+        push(nodes, dists, done, e);
     }
 }

@@ -9,8 +9,8 @@ use lib.IntN.{ℤ}
 use lib.Ieee.{Float, nan, inf, fin, binary32, to_bits, of_bits, fits}
 use lib.Ieee.Bits.{of_bits-fits}
 use borrow.Author.Tests.{leb-true}
-use Rattle.rules.specs.declared.Distance.{Distance}
-use Rattle.rules.specs.declared.Distance.TheVariants.{Fit, Unfit}
+use Rattle.std.specs.Prelude.{Some, None}
+use Rattle.rules.specs.Answers.{Distance}
 use Rattle.rules.specs.Distance.{total_of, fit, answer, largest, zero32, distance_of, unfit, carried, lanes_of, nodes_apart, query_apart, between}
 use Rattle.rules.proofs.Distances.{total-fits}
 
@@ -47,7 +47,7 @@ pub carried-fit : (a b : List Float) → fit (carried (distance_of a b)) ≡ tru
 unfolding distance_of answer carried
 carried-fit a b = go (fit (total_of zero32 a b)) refl
   where
-    go : (t : Bool) → fit (total_of zero32 a b) ≡ t → fit (carried (cond t (Fit (total_of zero32 a b)) Unfit)) ≡ true
+    go : (t : Bool) → fit (total_of zero32 a b) ≡ t → fit (carried (cond t (Some (total_of zero32 a b)) None)) ≡ true
     go true e = e
     go false e = zero-fit
 
@@ -55,7 +55,7 @@ pub carried-fits : (a b : List Float) → T (fits binary32 (carried (distance_of
 unfolding distance_of answer carried
 carried-fits a b = go (fit (total_of zero32 a b))
   where
-    go : (t : Bool) → T (fits binary32 (carried (cond t (Fit (total_of zero32 a b)) Unfit)))
+    go : (t : Bool) → T (fits binary32 (carried (cond t (Some (total_of zero32 a b)) None)))
     go true = total-fits zero32 a b (of_bits-fits binary32 0)
     go false = of_bits-fits binary32 0
 
@@ -68,7 +68,7 @@ unfolding between nodes_apart
 between-fits lanes dimension i j = carried-fits (lanes_of lanes dimension i) (lanes_of lanes dimension j)
 
 -- what any distance answer that carries a distance says of it
-module _ (a b : List Float) (x : Float) (e : distance_of a b ≡ Fit x) where
+module _ (a b : List Float) (x : Float) (e : distance_of a b ≡ Some x) where
   pub distance-fit : fit x ≡ true
   unfolding carried
   distance-fit = rw e at (carried-fit a b)
@@ -77,7 +77,7 @@ module _ (a b : List Float) (x : Float) (e : distance_of a b ≡ Fit x) where
   unfolding carried
   distance-fits = rw e at (carried-fits a b)
 
-module _ (lanes : List Float) (dimension : ℕ) (query : List Float) (i : ℕ) (x : Float) (e : query_apart lanes dimension query i ≡ Fit x) where
+module _ (lanes : List Float) (dimension : ℕ) (query : List Float) (i : ℕ) (x : Float) (e : query_apart lanes dimension query i ≡ Some x) where
   pub query-fit : fit x ≡ true
   unfolding query_apart
   query-fit = distance-fit (lanes_of lanes dimension i) query x e
@@ -87,15 +87,15 @@ module _ (lanes : List Float) (dimension : ℕ) (query : List Float) (i : ℕ) (
   query-fits = distance-fits (lanes_of lanes dimension i) query x e
 
 -- an answer that is not unfit is the one that carries its distance
-pub is_carried : (d : Distance) → unfit d ≡ false → d ≡ Fit (carried d)
+pub is_carried : (d : Distance) → unfit d ≡ false → d ≡ Some (carried d)
 unfolding unfit carried
-is_carried (Fit x) h = refl
-is_carried Unfit h = absurd (subst T h tt)
+is_carried (Some x) h = refl
+is_carried None h = absurd (subst T h tt)
 
 pub answer-fit : (x : Float) → unfit (answer x) ≡ false → fit x ≡ true
 unfolding answer unfit
 answer-fit x h = go (fit x) h
   where
-    go : (t : Bool) → unfit (cond t (Fit x) Unfit) ≡ false → t ≡ true
+    go : (t : Bool) → unfit (cond t (Some x) None) ≡ false → t ≡ true
     go true e = refl
     go false e = sym e

@@ -10,8 +10,8 @@ use lib.Dec.{T, ltb, ltb→lt, nltb→le}
 use lib.ListN.{length}
 use lib.Ieee.{Float}
 use borrow.Author.Tests.{lt-ltb, le-ltb, ltb-false}
-use Rattle.rules.specs.declared.Distance.{Distance}
-use Rattle.rules.specs.declared.Distance.TheVariants.{Fit}
+use Rattle.std.specs.Prelude.{Some}
+use Rattle.rules.specs.Answers.{Distance}
 use Rattle.rules.specs.Distance.{total_of, zero32, distance_of, unfit, lanes_of, nodes_apart, between}
 use Rattle.rules.specs.Refusals.{passed, refused, code, decide, row10, unfit_after, first_unfit}
 use Rattle.metrics.specs.Finite.{AllFinite}
@@ -64,7 +64,7 @@ module _ (lanes : List Float) (dimension n : ℕ) (h : decide (row10 (nodes_apar
         | inr k ↦ ap unfit (apart-symmetric lanes dimension i j) ∙ all_fit (nodes_apart lanes dimension) n h j i k l
       ]
 
-  pub passed-fit : (i j : ℕ) → i < n → j < n → (i ≡ j → ⊥) → nodes_apart lanes dimension i j ≡ Fit (between lanes dimension i j)
+  pub passed-fit : (i j : ℕ) → i < n → j < n → (i ≡ j → ⊥) → nodes_apart lanes dimension i j ≡ Some (between lanes dimension i j)
   unfolding between
   passed-fit i j l m d = is_carried (nodes_apart lanes dimension i j) (both_ways i j l m d)
 

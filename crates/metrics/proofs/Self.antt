@@ -10,7 +10,7 @@ use lib.IntN.{pos}
 use lib.Ieee.{Float, nan, inf, fin, binary32, up, down, round, add, sub, mul, of_bits, to_bits}
 use lib.Ieee.Fits.{down_pos}
 use lib.Ieee.Scale.{round_same, finite}
-use Rattle.rules.specs.declared.Distance.TheVariants.{Fit}
+use Rattle.std.specs.Prelude.{Some}
 use Rattle.rules.specs.Distance.{lane, total_of, fit, answer, zero32, distance_of, lanes_of, nodes_apart, carried, between}
 use Rattle.metrics.specs.Finite.{AllFinite}
 use Rattle.metrics.proofs.Symmetry.{size, square, spread, size-sum}
@@ -40,7 +40,7 @@ unfolding total_of AllFinite
 total_self [] h = refl
 total_self (x ∷ a) h = ap (λ (z : Float). total_of z a a) (lane_self x h.0) ∙ total_self a h.1
 
-pub distance_self : (a : List Float) → AllFinite a → distance_of a a ≡ Fit zero32
+pub distance_self : (a : List Float) → AllFinite a → distance_of a a ≡ Some zero32
 unfolding distance_of answer fit to_bits of_bits
 distance_self a h = ap answer (total_self a h)
 

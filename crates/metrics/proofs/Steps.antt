@@ -1,6 +1,6 @@
 -- What the functions lean on: a node's part of the lanes, the turns of `metric` and its tests. Assumes nothing.
 use mathlib.Core.Path.{◌≡◌, refl, sym, ◌∙◌, ap, subst}
-use mathlib.Core.Bool.{true, false, not}
+use mathlib.Core.Bool.{Bool, true, false, not}
 use mathlib.Core.List.{List}
 use Prim.Native.Nat.{ℕ, ◌+◌, ◌-◌, ◌*◌, ◌<◌, ◌≤◌}
 use native.Mathlib.Nat.{mul-le-mul_right}
@@ -12,10 +12,10 @@ use lib.Seq.{drop-cons, drop-length, length-take-le}
 use lib.Ieee.{Float, nan, inf, fin, binary32, is_nan, ne, to_bits}
 use lib.Ieee.Compare.{differs_from_itself}
 use borrow.Author.Tests.{le-leb, lt-leb}
-use Rattle.rules.specs.declared.Distance.{Distance}
-use Rattle.rules.specs.declared.Distance.TheVariants.{Fit, Unfit}
+use Rattle.std.specs.Prelude.{Some, None, is_some, unwrap_or}
+use Rattle.rules.specs.Answers.{Distance}
 use Rattle.rules.specs.Loops.{part}
-use Rattle.rules.specs.Distance.{lane, total_of, fit, answer, largest, zero32, distance_of, lanes_of, measure_of}
+use Rattle.rules.specs.Distance.{lane, total_of, fit, answer, largest, zero32, distance_of, lanes_of, measure_of, unfit, carried}
 use Rattle.metrics.specs.Measured.{Lanes, Measured}
 
 -- ---- a node's part
@@ -59,15 +59,15 @@ number nan e = subst T e tt
 number (inf s) e = tt
 number (fin s m e) h = tt
 
-pub of_nan : (x : Float) → ne x x ≡ true → answer x ≡ Unfit
+pub of_nan : (x : Float) → ne x x ≡ true → answer x ≡ None
 unfolding answer fit to_bits
 of_nan x e = ap answer (differs_from_itself x (subst T (sym e) tt))
 
-pub of_fit : (x : Float) → to_bits binary32 x ≤ largest → answer x ≡ Fit x
+pub of_fit : (x : Float) → to_bits binary32 x ≤ largest → answer x ≡ Some x
 unfolding answer fit
 of_fit x h = rw (le-leb (to_bits binary32 x) largest h)
 
-pub of_unfit : (x : Float) → largest < to_bits binary32 x → answer x ≡ Unfit
+pub of_unfit : (x : Float) → largest < to_bits binary32 x → answer x ≡ None
 unfolding answer fit
 of_unfit x h = rw (lt-leb (to_bits binary32 x) largest h)
 
@@ -81,3 +81,17 @@ measured a b r t e w =
 -- the distance of the lanes that were cut out
 pub of_parts : (r : Distance) (x y a b : List Float) → Measured x y r → x ≡ a → y ≡ b → r ≡ distance_of a b
 of_parts r x y a b m e f = m.answer ∙ ap (λ (z : List Float). distance_of z y) e ∙ ap (distance_of a) f
+
+-- ---- the methods of an answer
+
+pub unfit_none : (d : Distance) (b : Bool) → is_some d ≡ not b → unfit d ≡ b
+unfolding unfit
+unfit_none (Some x) true h = cc
+unfit_none (Some x) false h = refl
+unfit_none None true h = refl
+unfit_none None false h = cc
+
+pub carried_or : (d : Distance) → unwrap_or d zero32 ≡ carried d
+unfolding carried
+carried_or (Some x) = refl
+carried_or None = refl

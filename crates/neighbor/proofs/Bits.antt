@@ -17,7 +17,7 @@ use lib.Ieee.Bits.{of_bits-to_bits, of_bits-fits}
 use lib.Ieee.Order.{transfer}
 use lib.Ieee.Nearest.{div_mono}
 use lib.Ieee.Positive.{num, den, den_pos}
-use Rattle.rules.specs.declared.Distance.TheVariants.{Fit, Unfit}
+use Rattle.std.specs.Prelude.{Some, None}
 use Rattle.rules.specs.Distance.{total_of, zero32, fit, answer, distance_of, carried, lanes_of, nodes_apart, between}
 use Rattle.rules.specs.Rows.{empty_distance}
 use Rattle.rules.proofs.Distances.{total-fits}
@@ -222,11 +222,11 @@ holdable_carried a b = go (fit t) refl
     t : Float
     t = total_of zero32 a b
 
-    go : (c : Bool) → fit t ≡ c → Holdable (carried (cond c (Fit t) Unfit))
+    go : (c : Bool) → fit t ≡ c → Holdable (carried (cond c (Some t) None))
     go true e = holdable_fit t (total-fits zero32 a b (of_bits-fits binary32 0)) e
     go false e = holdable_zero
 
-pub holdable_distance : (a b : List Float) (x : Float) → distance_of a b ≡ Fit x → Holdable x
+pub holdable_distance : (a b : List Float) (x : Float) → distance_of a b ≡ Some x → Holdable x
 unfolding carried
 holdable_distance a b x e = subst Holdable (ap carried e) (holdable_carried a b)
 

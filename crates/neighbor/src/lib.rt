@@ -8,18 +8,16 @@ use rules::Neighbor;
 
 /// Whether `a` stands before `b`: by distance, and where the distances are equal, by node number
 /// (hora's `Neighbor::cmp`, which leaves entries of equal distance in no order).
+#[tactic(auto, unfolding(rules::specs::Distance::before))]
 pub fn precedes(a: Neighbor, b: Neighbor) -> bool
     ensures { result ≡ before a b }
 {
-    let da = a.distance;
-    let db = b.distance;
-    if da < db {
+    // As one expression with `||` and `&&` the compiler makes no branch of the second test, and a sort takes a tenth longer.
+    if a.distance < b.distance {
         return true;
     }
-    if da == db {
-        let na = a.node;
-        let nb = b.node;
-        return na.0 < nb.0;
+    if a.distance == b.distance {
+        return a.node.0 < b.node.0;
     }
     false
 }

@@ -8,7 +8,7 @@ use lib.Dec.{eqb}
 use lib.ListN.{replicate, length-replicate}
 use lib.Ieee.{binary32, of_bits, to_bits, add, sub, mul, lt, eq}
 use lib.Ieee.Bits.{of_bits-fits}
-use Rattle.rules.specs.declared.Distance.TheVariants.{Fit}
+use Rattle.std.specs.Prelude.{Some, None}
 use Rattle.rules.specs.Loops.{each, through, part}
 use Rattle.rules.specs.Numbers.{outside}
 use Rattle.rules.specs.Distance.{zero32, lane, total_of, fit, answer, distance_of, carried, lanes_of, nodes_apart, between, before}
@@ -45,7 +45,7 @@ below (suc zero) h = (omega arith, omega arith)
 below (suc (suc zero)) h = (omega arith, omega arith)
 below (suc (suc (suc i))) h = absurd (omega arith)
 
-fits : (i : ℕ) → i < 3 → nodes_apart lanes 1 (u lent i) (v lent i) ≡ Fit (apart lent i)
+fits : (i : ℕ) → i < 3 → nodes_apart lanes 1 (u lent i) (v lent i) ≡ Some (apart lent i)
 unfolding lane total_of fit answer distance_of carried lanes_of part nodes_apart between of_bits to_bits add sub mul
 fits zero h = refl
 fits (suc zero) h = refl

@@ -7,9 +7,8 @@
 --   01's step rules say."
 --
 -- Each sentence again, above what renders it. `proofs/Demand3.antt` proves `Demand3 l` from `Asked l`, for every l. Assumes nothing.
-use Rattle.std.specs.Prelude.{◌≡◌, true, false, cond, List, [], ◌∷◌, ◌++◌, ℕ, ◌+◌, ◌*◌, ◌≤◌, ◌<◌, eqb, length, get_or, replicate, Float}
+use Rattle.std.specs.Prelude.{Some, None, ◌≡◌, true, false, cond, List, [], ◌∷◌, ◌++◌, ℕ, ◌+◌, ◌*◌, ◌≤◌, ◌<◌, eqb, length, get_or, replicate, Float}
 use Rattle.rules.specs.declared.Neighbor.{Neighbor}
-use Rattle.rules.specs.declared.Distance.TheVariants.{Fit}
 use Rattle.rules.specs.Loops.{each, through}
 use Rattle.rules.specs.Distance.{zero32, nodes_apart, between}
 use Rattle.rules.specs.Lists.{neighbor, least}
@@ -65,7 +64,7 @@ pub record Asked (l : OpenLent) : Type 0 where
   pub lists : lists_formed l.n (lists_in l.n l.k l.nodes l.distances) ≡ true
   pub binary : Binary32 l.distances
   -- "all their distances fit": that of a pair of two nodes is what open works out
-  pub fit : (i : ℕ) → i < pairs l → eqb (u l i) (v l i) ≡ false → nodes_apart l.lanes l.dimension (u l i) (v l i) ≡ Fit (apart l i)
+  pub fit : (i : ℕ) → i < pairs l → eqb (u l i) (v l i) ≡ false → nodes_apart l.lanes l.dimension (u l i) (v l i) ≡ Some (apart l i)
 
 -- what w's list held
 abbrev pub held : OpenLent → ℕ → List Neighbor

@@ -2,11 +2,12 @@
 #![tactic(auto)]
 
 ghost use Rattle.std.specs.Prelude.{◌≡◌, [], ◌∷◌, ◌*◌, ◌≤◌, length};
-ghost use Rattle.rules.specs.Distance.{nodes_apart};
 ghost use Rattle.rules.specs.Refusals.{decide, decision_of, row10};
+ghost use Rattle.metrics.specs.Counters.{apart};
 ghost use Rattle.pairs.specs.Within.{within, all_within};
 
-use rules::Answer;
+use metrics::Counters;
+use rules::Refusal;
 
 // Whether a lane is at most 2 to the 30th in size; a NaN is not.
 fn is_small(x: f32) -> bool
@@ -23,25 +24,23 @@ fn all_small(lanes: &[f32]) -> bool
     ensures { result ≡ all_within 30 lanes.now }
 {
     let mut all = true;
-    let mut i: usize = 0;
-    while i < lanes.len() {
+    for i in 0..lanes.len() {
         if !is_small(lanes[i]) {
             all = false;
         }
-        i += 1;
     }
     all
 }
 
 /// Row 10 of build, begin and iteration, as `metrics::first_unfit` gives it.
-pub fn first_unfit(lanes: &[f32], dimension: usize, n: usize) -> Answer
-    requires { (length lanes.now ≡ n * dimension) × (n ≤ 4096) }
-    ensures { decision_of result ≡ decide (row10 (nodes_apart lanes.now dimension) n ∷ []) }
+pub fn first_unfit(counters: Counters<'_>) -> Result<(), Refusal>
+    requires { counters.n ≤ 4096 }
+    ensures { decision_of result ≡ decide (row10 (apart counters.entry) counters.entry.n ∷ []) }
 {
-    if dimension <= 64 {
-        if all_small(lanes) {
-            return Answer::Done;
+    if counters.dimension <= 64 {
+        if all_small(counters.lanes) {
+            return Ok(());
         }
     }
-    kernels::first_unfit(lanes, dimension, n)
+    kernels::first_unfit(counters)
 }

@@ -6,9 +6,9 @@ use Prim.Native.Nat.{ℕ}
 use lib.Dec.{T}
 use lib.Ieee.{Float, binary32, fits}
 use lib.Ieee.Fits.{add-fits}
+use Rattle.std.specs.Prelude.{Some, None}
 use Rattle.rules.specs.declared.NodeId.{NodeId}
-use Rattle.rules.specs.declared.Distance.{Distance}
-use Rattle.rules.specs.declared.Distance.TheVariants.{Fit, Unfit}
+use Rattle.rules.specs.Answers.{Distance}
 use Rattle.rules.specs.declared.Refusal.TheVariants.{Pair}
 use Rattle.rules.specs.Distance.{lane, total_of, measure_of, unfit, carried}
 use Rattle.rules.specs.Refusals.{code_of, no_refusal, row10, row10_of_jobs}
@@ -27,22 +27,22 @@ pub record SaidOfDistance : Type 0 where
   pub value : (x : Distance) → (measure_of x).value ≡ carried x
   pub fit_number : (x : Distance) → unfit x ≡ false → (measure_of x).number ≡ no_refusal.number
   pub unfit_number : (x : Distance) → unfit x ≡ true → (i j : NodeId) → (measure_of x).number ≡ (code_of (Pair i j)).number
-  pub of_pairs : (apart : ℕ → ℕ → Distance) (n : ℕ) → (row10 apart n).gives.number ≡ (measure_of Unfit).number
-  pub of_jobs : (apart : ℕ → ℕ → Distance) (jobs : List ℕ) → (row10_of_jobs apart jobs).gives.number ≡ (measure_of Unfit).number
-  pub of_search : (l : SearchLent) (v : ℕ) → (search_ends l (unfit_at v)).said.code.number ≡ (measure_of Unfit).number
+  pub of_pairs : (apart : ℕ → ℕ → Distance) (n : ℕ) → (row10 apart n).gives.number ≡ (measure_of None).number
+  pub of_jobs : (apart : ℕ → ℕ → Distance) (jobs : List ℕ) → (row10_of_jobs apart jobs).gives.number ≡ (measure_of None).number
+  pub of_search : (l : SearchLent) (v : ℕ) → (search_ends l (unfit_at v)).said.code.number ≡ (measure_of None).number
 
 pub said_of_distance : SaidOfDistance
 unfolding measure_of carried unfit code_of row10 row10_of_jobs search_ends search_zeroed
 said_of_distance = record { value = values; fit_number = fits-number; unfit_number = unfits_number; of_pairs = λ apart n. refl; of_jobs = λ apart jobs. refl; of_search = λ l v. refl }
   where
     values : (x : Distance) → (measure_of x).value ≡ carried x
-    values (Fit x) = refl
-    values Unfit = refl
+    values (Some x) = refl
+    values None = refl
 
     fits-number : (x : Distance) → unfit x ≡ false → (measure_of x).number ≡ no_refusal.number
-    fits-number (Fit x) h = refl
-    fits-number Unfit h = absurd (true≢false h)
+    fits-number (Some x) h = refl
+    fits-number None h = absurd (true≢false h)
 
     unfits_number : (x : Distance) → unfit x ≡ true → (i j : NodeId) → (measure_of x).number ≡ (code_of (Pair i j)).number
-    unfits_number (Fit x) h i j = absurd (true≢false (sym h))
-    unfits_number Unfit h i j = refl
+    unfits_number (Some x) h i j = absurd (true≢false (sym h))
+    unfits_number None h i j = refl

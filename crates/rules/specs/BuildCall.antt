@@ -1,6 +1,6 @@
 -- The whole outcome of a build: its answer, and every lent buffer as it is left. Assumes nothing.
 use Rattle.std.specs.Prelude.{List, [], ◌∷◌, ◌++◌, ℕ, length, replicate, Float}
-use Rattle.rules.specs.declared.Answer.{Answer}
+use Rattle.rules.specs.Answers.{Answer}
 use Rattle.rules.specs.Distance.{nodes_apart, between, zero32}
 use Rattle.rules.specs.Refusals.{Code, no_refusal, said_of, Row, Decision, passed, refused, decide, row10}
 use Rattle.rules.specs.Calls.{BuildSizes, scratch, build_rows}

@@ -1,6 +1,6 @@
 -- "A call tests the rows that concern it": the rows of each of the seven calls, in order. Assumes nothing.
 use Rattle.std.specs.Prelude.{Bool, not, List, [], ◌∷◌, ℕ, ◌+◌, ◌*◌, ◌/◌, ◌%◌, eqb, Float}
-use Rattle.rules.specs.declared.Distance.{Distance}
+use Rattle.rules.specs.Answers.{Distance}
 use Rattle.rules.specs.Numbers.{outside, most, most_hops, most_nodes, most_taught}
 use Rattle.rules.specs.Refusals.{Row, row1, row2, row3, row4, row5, row6, row7, row8, row9, row10, row10_of_jobs, row11, row12, row13, not_exactly, less_than}
 

@@ -1,7 +1,6 @@
 -- The whole outcome of begin and of one iteration. Assumes nothing.
-use Rattle.std.specs.Prelude.{List, ℕ, length, replicate, Float}
-use Rattle.rules.specs.declared.IterateAnswer.{IterateAnswer}
-use Rattle.rules.specs.declared.IterateAnswer.TheVariants.{Iterated, Refused}
+use Rattle.std.specs.Prelude.{Ok, Err, List, ℕ, length, replicate, Float}
+use Rattle.rules.specs.Answers.{IterateAnswer}
 use Rattle.rules.specs.Distance.{nodes_apart, between, zero32}
 use Rattle.rules.specs.Refusals.{Code, code_of, no_refusal, Row, Decision, passed, refused, decide}
 use Rattle.rules.specs.Calls.{scratch, begin_rows, iterate_rows}
@@ -75,8 +74,8 @@ pub record IterateSaid : Type 0 where
   pub new : ℕ
 
 unfoldable pub iterate_said : IterateAnswer → IterateSaid
-iterate_said (Iterated cost new) = record { code = no_refusal; cost = cost; new = new }
-iterate_said (Refused r) = record { code = code_of r; cost = 0; new = 0 }
+iterate_said (Ok c) = record { code = no_refusal; cost = c.cost; new = c.new }
+iterate_said (Err r) = record { code = code_of r; cost = 0; new = 0 }
 
 pub record IterateOutcome : Type 0 where
   pub said : IterateSaid

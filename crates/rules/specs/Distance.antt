@@ -1,9 +1,8 @@
 -- "Distance", and the order of entries. Assumes nothing.
-use Rattle.std.specs.Prelude.{Bool, true, false, cond, ◌&&◌, ◌||◌, List, [], ◌∷◌, ℕ, leb, ltb, Float}
+use Rattle.std.specs.Prelude.{Some, None, Bool, true, false, cond, ◌&&◌, ◌||◌, List, [], ◌∷◌, ℕ, leb, ltb, Float}
 use Rattle.std.specs.Float.{binary32}
 use Rattle.std.specs.Float.Ieee.{add, sub, mul, lt, eq, to_bits, of_bits}
-use Rattle.rules.specs.declared.Distance.{Distance}
-use Rattle.rules.specs.declared.Distance.TheVariants.{Fit, Unfit}
+use Rattle.rules.specs.Answers.{Distance}
 use Rattle.rules.specs.declared.Neighbor.{Neighbor}
 use Rattle.rules.specs.Loops.{part}
 
@@ -29,7 +28,7 @@ fit x = leb (to_bits binary32 x) largest
 
 -- "The distance answer carries the f32 when .., and says unfit otherwise."
 unfoldable pub answer : Float → Distance
-answer x = cond (fit x) (Fit x) Unfit
+answer x = cond (fit x) (Some x) None
 
 -- "The total starts at 0.0."
 unfoldable pub distance_of : List Float → List Float → Distance
@@ -41,17 +40,17 @@ pub record Measure : Type 0 where
   pub value : Float
 
 unfoldable pub measure_of : Distance → Measure
-measure_of (Fit x) = record { number = 0; value = x }
-measure_of Unfit = record { number = 10; value = zero32 }
+measure_of (Some x) = record { number = 0; value = x }
+measure_of None = record { number = 10; value = zero32 }
 
 unfoldable pub unfit : Distance → Bool
-unfit (Fit x) = false
-unfit Unfit = true
+unfit (Some x) = false
+unfit None = true
 
 -- the distance that an answer carries
 unfoldable pub carried : Distance → Float
-carried (Fit x) = x
-carried Unfit = zero32
+carried (Some x) = x
+carried None = zero32
 
 -- "lanes in one f32 slice": the lanes of a node
 unfoldable pub lanes_of : List Float → ℕ → ℕ → List Float

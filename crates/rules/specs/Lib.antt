@@ -1,4 +1,5 @@
 -- The rulebook: document 01 as executable definitions, a file for each of its headings, in its order.
+pub mod Answers
 pub mod Loops
 pub mod Numbers
 pub mod Distance

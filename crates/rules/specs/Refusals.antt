@@ -1,10 +1,8 @@
 -- "Refusal numbers": each row of the table once, as a test with its places, and the first row that holds. Assumes nothing.
-use Rattle.std.specs.Prelude.{Bool, cond, not, ◌&&◌, ◌||◌, List, [], ◌∷◌, ℕ, suc, ◌+◌, ◌-◌, ◌*◌, ◌/◌, leb, ltb, eqb, length, take, get_or, Float}
-use Rattle.rules.specs.declared.Distance.{Distance}
+use Rattle.std.specs.Prelude.{Ok, Err, Bool, cond, not, ◌&&◌, ◌||◌, List, [], ◌∷◌, ℕ, suc, ◌+◌, ◌-◌, ◌*◌, ◌/◌, leb, ltb, eqb, length, take, get_or, Float}
+use Rattle.rules.specs.Answers.{Distance, Answer}
 use Rattle.rules.specs.declared.Refusal.{Refusal}
 use Rattle.rules.specs.declared.Refusal.TheVariants.{Dimension, Nodes, Lanes, Parameter, Threshold, Buffer, Root, Query, Job, Pair, Draws, State, Step}
-use Rattle.rules.specs.declared.Answer.{Answer}
-use Rattle.rules.specs.declared.Answer.TheVariants.{Done, Refused}
 use Rattle.rules.specs.Loops.{first_from, any_of, has}
 use Rattle.rules.specs.Numbers.{outside, most, bad_threshold}
 use Rattle.rules.specs.Distance.{unfit}
@@ -39,8 +37,8 @@ no_refusal = code 0 0 0
 
 -- what the answer of build, begin, open, a move or a close says
 unfoldable pub said_of : Answer → Code
-said_of Done = no_refusal
-said_of (Refused r) = code_of r
+said_of (Ok _) = no_refusal
+said_of (Err r) = code_of r
 
 -- ---- rows
 
@@ -62,8 +60,8 @@ decide (r ∷ rs) = cond r.test (refused r.gives) (decide rs)
 
 -- an answer as a decision
 unfoldable pub decision_of : Answer → Decision
-decision_of Done = passed
-decision_of (Refused r) = refused (code_of r)
+decision_of (Ok _) = passed
+decision_of (Err r) = refused (code_of r)
 
 abbrev pub holds : Bool → Bool
 holds b = b

@@ -1,8 +1,7 @@
 -- "Search": one walk, over a distance to the query that may be unfit. Assumes nothing.
-use Rattle.std.specs.Prelude.{Bool, cond, List, [], ◌∷◌, ◌++◌, ℕ, zero, suc, ◌-◌, eqb, ltb, length, take, get_or, set, replicate, Float}
+use Rattle.std.specs.Prelude.{Some, None, Bool, cond, List, [], ◌∷◌, ◌++◌, ℕ, zero, suc, ◌-◌, eqb, ltb, length, take, get_or, set, replicate, Float}
 use Rattle.std.specs.Float.Ieee.{lt}
-use Rattle.rules.specs.declared.Distance.{Distance}
-use Rattle.rules.specs.declared.Distance.TheVariants.{Fit, Unfit}
+use Rattle.rules.specs.Answers.{Distance}
 use Rattle.rules.specs.declared.Neighbor.{Neighbor}
 use Rattle.rules.specs.Loops.{through}
 use Rattle.rules.specs.Distance.{zero32}
@@ -30,8 +29,8 @@ and_then (unfit_at v) f = unfit_at v
 
 -- a node with its distance, put in order into the entries found so far
 unfoldable pub works_out : (ℕ → Distance) → ℕ → List Neighbor → Distance → Going (List Neighbor)
-works_out apart v found (Fit x) = on (insert (neighbor v x) found)
-works_out apart v found Unfit = unfit_at v
+works_out apart v found (Some x) = on (insert (neighbor v x) found)
+works_out apart v found None = unfit_at v
 
 -- "Work out the roots' distances to the query in the given order; sort."
 unfoldable pub roots_found : (ℕ → Distance) → List ℕ → List Neighbor → Going (List Neighbor)

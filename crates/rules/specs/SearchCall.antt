@@ -1,7 +1,6 @@
 -- The whole outcome of a search: its answer with its counts, and every lent buffer as it is left. Assumes nothing.
-use Rattle.std.specs.Prelude.{List, ℕ, min, length, replicate, Float}
-use Rattle.rules.specs.declared.SearchAnswer.{SearchAnswer}
-use Rattle.rules.specs.declared.SearchAnswer.TheVariants.{Found, Refused}
+use Rattle.std.specs.Prelude.{Ok, Err, List, ℕ, min, length, replicate, Float}
+use Rattle.rules.specs.Answers.{SearchAnswer}
 use Rattle.rules.specs.Loops.{over}
 use Rattle.rules.specs.Distance.{query_apart, zero32}
 use Rattle.rules.specs.Lists.{nodes_of, bits_of}
@@ -31,8 +30,8 @@ pub record SearchSaid : Type 0 where
   pub takings : ℕ
 
 unfoldable pub search_said : SearchAnswer → SearchSaid
-search_said (Found m takings) = record { code = no_refusal; m = m; takings = takings }
-search_said (Refused r) = record { code = code_of r; m = 0; takings = 0 }
+search_said (Ok c) = record { code = no_refusal; m = c.m; takings = c.takings }
+search_said (Err r) = record { code = code_of r; m = 0; takings = 0 }
 
 pub record SearchOutcome : Type 0 where
   pub said : SearchSaid

@@ -2,11 +2,11 @@
 #![tactic(auto)]
 
 /// A node number: the place of a counter in its game.
-#[derive(Clone, Copy)]
+#[derive(Clone, Copy, Debug, PartialEq, Eq)]
 pub struct NodeId(pub u32);
 
 /// A slot number: a place in the n times `index_size` array of rows.
-#[derive(Clone, Copy)]
+#[derive(Clone, Copy, Debug, PartialEq, Eq)]
 pub struct Slot(pub usize);
 
 /// An entry of a list: a node number beside its distance (hora's `Neighbor`).
@@ -16,15 +16,8 @@ pub struct Neighbor {
     pub distance: f32,
 }
 
-/// The distance answer: the distance, where its bits are at most 0x7F7FFFFE, or that it is unfit.
-#[derive(Clone, Copy)]
-pub enum Distance {
-    Fit(f32),
-    Unfit,
-}
-
 /// A refusal, a case for each row of the table: `code_of` gives its number and places.
-#[derive(Clone, Copy)]
+#[derive(Clone, Copy, Debug, PartialEq, Eq)]
 pub enum Refusal {
     Dimension,
     Nodes,
@@ -41,23 +34,16 @@ pub enum Refusal {
     Step(usize),
 }
 
-/// The answer of build, begin, open, a move and a close.
-#[derive(Clone, Copy)]
-pub enum Answer {
-    Done,
-    Refused(Refusal),
+/// What a search counts: its results, and the nodes taken from the queue.
+#[derive(Clone, Copy, Debug, PartialEq, Eq)]
+pub struct SearchCounts {
+    pub m: usize,
+    pub takings: usize,
 }
 
-/// The answer of search: how many results there are, and how many nodes were taken from the queue.
-#[derive(Clone, Copy)]
-pub enum SearchAnswer {
-    Found { m: usize, takings: usize },
-    Refused(Refusal),
-}
-
-/// The answer of one iteration: its cost, and the total of new.
-#[derive(Clone, Copy)]
-pub enum IterateAnswer {
-    Iterated { cost: usize, new: usize },
-    Refused(Refusal),
+/// What an iteration counts: its cost, and the total of new.
+#[derive(Clone, Copy, Debug, PartialEq, Eq)]
+pub struct IterateCounts {
+    pub cost: usize,
+    pub new: usize,
 }

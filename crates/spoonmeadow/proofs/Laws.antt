@@ -3,9 +3,7 @@ use mathlib.Core.Path.{◌≡◌, ap, ◌∙◌}
 use mathlib.Core.List.{List}
 use Prim.Native.Nat.{ℕ}
 use lib.Ieee.{Float}
-use Rattle.rules.specs.declared.Answer.{Answer}
-use Rattle.rules.specs.declared.SearchAnswer.{SearchAnswer}
-use Rattle.rules.specs.declared.IterateAnswer.{IterateAnswer}
+use Rattle.rules.specs.Answers.{Answer, SearchAnswer, IterateAnswer}
 use Rattle.rules.specs.Refusals.{Code, said_of}
 use Rattle.rules.specs.BuildCall.{BuildLent}
 use Rattle.rules.specs.SearchCall.{SearchLent, SearchSaid, search_said}

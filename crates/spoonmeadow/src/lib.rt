@@ -2,12 +2,12 @@
 #![tactic(auto)]
 
 ghost use Rattle.params.specs.Params.{params};
-ghost use Rattle.build.specs.Build.{lent as buildLent};
-ghost use Rattle.search.specs.Search.{lent as searchLent};
-ghost use Rattle.descent.specs.Descent.{lent as descentLent};
-ghost use Rattle.relay_opening.specs.Opening.{lent as openLent};
-ghost use Rattle.relay_move.specs.Move.{lent as moveLent};
-ghost use Rattle.relay_close.specs.Close.{lent as closeLent};
+ghost use Rattle.build.specs.Build.{lent as build_lent};
+ghost use Rattle.search.specs.Search.{lent as search_lent};
+ghost use Rattle.descent.specs.Descent.{lent as descent_lent};
+ghost use Rattle.relay_opening.specs.Opening.{lent as open_lent};
+ghost use Rattle.relay_move.specs.Move.{lent as move_lent};
+ghost use Rattle.relay_close.specs.Close.{lent as close_lent};
 ghost use Rattle.spoonmeadow.specs.Across.{Built, Searched, Begun, IteratedOnce, Opened, Moved, Closed};
 
 use answers::{Found, Iterated, Said};
@@ -27,7 +27,7 @@ pub extern "C" fn spoonmeadow_build(
     scratch_u: &mut [u32],
     scratch_f: &mut [f32],
 ) -> Said
-    ensures { Built (buildLent (params threshold init_k index_size neighbor_neighbor_size) dimension n lanes.now graph.old scratch_u.old scratch_f.old) result graph.new scratch_u.new scratch_f.new }
+    ensures { Built (build_lent (params threshold init_k index_size neighbor_neighbor_size) dimension n lanes.now graph.old scratch_u.old scratch_f.old) result graph.new scratch_u.new scratch_f.new }
 {
     let params = SsgParams {
         threshold,
@@ -35,8 +35,7 @@ pub extern "C" fn spoonmeadow_build(
         index_size,
         neighbor_neighbor_size,
     };
-    let a = build::build(params, dimension, n, lanes, graph, scratch_u, scratch_f);
-    answers::of_answer(a)
+    Said::from(build::build(params, dimension, n, lanes, graph, scratch_u, scratch_f))
 }
 
 /// `search` for C.
@@ -55,9 +54,9 @@ pub extern "C" fn spoonmeadow_search(
     scratch_u: &mut [u32],
     scratch_f: &mut [f32],
 ) -> Found
-    ensures { Searched (searchLent dimension n lanes.now graph.now index_size roots.now query.now k result_nodes.old result_bits.old scratch_u.old scratch_f.old) result result_nodes.new result_bits.new scratch_u.new scratch_f.new }
+    ensures { Searched (search_lent dimension n lanes.now graph.now index_size roots.now query.now k result_nodes.old result_bits.old scratch_u.old scratch_f.old) result result_nodes.new result_bits.new scratch_u.new scratch_f.new }
 {
-    let a = search::search(
+    Found::from(search::search(
         dimension,
         n,
         lanes,
@@ -70,8 +69,7 @@ pub extern "C" fn spoonmeadow_search(
         result_bits,
         scratch_u,
         scratch_f,
-    );
-    answers::of_search(a)
+    ))
 }
 
 /// `begin` for C.
@@ -88,12 +86,11 @@ pub extern "C" fn spoonmeadow_begin(
     scratch_u: &mut [u32],
     scratch_f: &mut [f32],
 ) -> Said
-    ensures { Begun (descentLent dimension n lanes.now k s draws.now state_u.old state_f.old scratch_u.old scratch_f.old) result state_u.new state_f.new scratch_u.new scratch_f.new }
+    ensures { Begun (descent_lent dimension n lanes.now k s draws.now state_u.old state_f.old scratch_u.old scratch_f.old) result state_u.new state_f.new scratch_u.new scratch_f.new }
 {
-    let a = descent::begin(
+    Said::from(descent::begin(
         dimension, n, lanes, k, s, draws, state_u, state_f, scratch_u, scratch_f,
-    );
-    answers::of_answer(a)
+    ))
 }
 
 /// `iterate` for C.
@@ -110,12 +107,11 @@ pub extern "C" fn spoonmeadow_iterate(
     scratch_u: &mut [u32],
     scratch_f: &mut [f32],
 ) -> Iterated
-    ensures { IteratedOnce (descentLent dimension n lanes.now k s draws.now state_u.old state_f.old scratch_u.old scratch_f.old) result state_u.new state_f.new scratch_u.new scratch_f.new }
+    ensures { IteratedOnce (descent_lent dimension n lanes.now k s draws.now state_u.old state_f.old scratch_u.old scratch_f.old) result state_u.new state_f.new scratch_u.new scratch_f.new }
 {
-    let a = iterate::iterate(
+    Iterated::from(iterate::iterate(
         dimension, n, lanes, k, s, draws, state_u, state_f, scratch_u, scratch_f,
-    );
-    answers::of_iterate(a)
+    ))
 }
 
 /// `open` for C.
@@ -133,12 +129,11 @@ pub extern "C" fn spoonmeadow_open(
     scratch_u: &mut [u32],
     scratch_f: &mut [f32],
 ) -> Said
-    ensures { Opened (openLent dimension n lanes.now k nodes.now distances.now jobs.now state_u.old state_f.old scratch_u.old scratch_f.old) result state_u.new state_f.new scratch_u.new scratch_f.new }
+    ensures { Opened (open_lent dimension n lanes.now k nodes.now distances.now jobs.now state_u.old state_f.old scratch_u.old scratch_f.old) result state_u.new state_f.new scratch_u.new scratch_f.new }
 {
-    let a = relay_opening::open(
+    Said::from(relay_opening::open(
         dimension, n, lanes, k, nodes, distances, jobs, state_u, state_f, scratch_u, scratch_f,
-    );
-    answers::of_answer(a)
+    ))
 }
 
 /// `move_job` for C.
@@ -150,10 +145,9 @@ pub extern "C" fn spoonmeadow_move_job(
     state_u: &mut [u32],
     state_f: &mut [f32],
 ) -> Said
-    ensures { Moved (moveLent n k job state_u.old state_f.old) result state_u.new state_f.new }
+    ensures { Moved (move_lent n k job state_u.old state_f.old) result state_u.new state_f.new }
 {
-    let a = relay_move::move_job(n, k, job, state_u, state_f);
-    answers::of_answer(a)
+    Said::from(relay_move::move_job(n, k, job, state_u, state_f))
 }
 
 /// `close` for C.
@@ -167,8 +161,7 @@ pub extern "C" fn spoonmeadow_close(
     distances: &mut [f32],
     reports: &mut [u32],
 ) -> Said
-    ensures { Closed (closeLent n k state_u.now state_f.now nodes.old distances.old reports.old) result nodes.new distances.new reports.new }
+    ensures { Closed (close_lent n k state_u.now state_f.now nodes.old distances.old reports.old) result nodes.new distances.new reports.new }
 {
-    let a = relay_close::close(n, k, state_u, state_f, nodes, distances, reports);
-    answers::of_answer(a)
+    Said::from(relay_close::close(n, k, state_u, state_f, nodes, distances, reports))
 }

@@ -15,11 +15,7 @@ pub fn look(nodes: &[u32], dists: &[f32], len: usize, e: Neighbor) -> bool
     ensures { result ≡ look e (entries len nodes.now dists.now) }
 {
     let farthest = dists[len - 1];
-    let x = e.distance;
-    if farthest < x {
-        return false;
-    }
-    true
+    !(farthest < e.distance)
 }
 
 /// Offers `e` to the list of the first `k` entries: look, push, measure, pop, with none in between. No place from `k` on is read or

@@ -1,40 +1,26 @@
 -- What the tests of the table lean on. Assumes nothing.
-use mathlib.Core.Path.{◌≡◌, sym, ◌∙◌}
+use mathlib.Core.Path.{◌≡◌, refl}
 use mathlib.Core.Bool.{true, false}
 use mathlib.Core.List.{List, [], ◌∷◌}
-use Prim.Native.Nat.{ℕ, ◌+◌, ◌*◌, ◌≤◌, ◌<◌}
+use Prim.Native.Nat.{ℕ, ◌*◌, ◌≤◌, ◌<◌}
 use native.Mathlib.Nat.{mul-le-mul}
 use native.Mathlib.Omega.{arith}
 use borrow.Author.Tests.{le-leb, lt-leb, eq-eqb, ne_eqb, lt-ltb, le-ltb}
 use lib.Dec.{eqb}
-use lib.ListN.{length, take, drop, get_or}
-use lib.Seq.{length-take-le, get_or-take}
-use Rattle.rules.specs.Loops.{has, any_of}
+use lib.ListN.{length, take, get_or}
+use Rattle.std.specs.List.{list_any}
+use Rattle.std.proofs.lemmas.Bool.Decides.{nat_tests}
+use Rattle.rules.specs.Loops.{has}
 use Rattle.rules.specs.Numbers.{outside}
 use Rattle.rules.specs.Refusals.{Row, code, decide, refused, passed, row1, row2, row3, row7, bad_root, first_bad_root}
-use Rattle.rules.proofs.Loops.{any_here, any_turn, any_end}
 use Rattle.rules.proofs.Tables.{within}
 
--- ---- a number among the first of others: at place i
+-- ---- a number among others
 
-module _ (v : ℕ) (xs : List ℕ) (len i : ℕ) (fits : len ≤ length xs) where
-  abbrev Sought : Type 0
-  Sought = has v (take len xs) ≡ any_of (eqb v) (drop i (take len xs))
-
-  pub has_here : Sought → i < len → get_or xs i 0 ≡ v → true ≡ has v (take len xs)
-  has_here inv h e =
-      let long = length-take-le len xs fits in
-      sym (inv ∙ any_here (eqb v) (take len xs) i 0 (omega arith) (eq-eqb v (get_or (take len xs) i 0) (sym (get_or-take len xs i 0 h ∙ e))))
-
-  pub has_turn : Sought → i < len → (get_or xs i 0 ≡ v → ⊥) → has v (take len xs) ≡ any_of (eqb v) (drop (i + 1) (take len xs))
-  has_turn inv h e =
-      let long = length-take-le len xs fits in
-      inv ∙ sym (any_turn (eqb v) (take len xs) i 0 (omega arith) (ne_eqb v (get_or (take len xs) i 0) (λ q. e (sym (get_or-take len xs i 0 h) ∙ sym q))))
-
-  pub has_end : Sought → len ≤ i → false ≡ has v (take len xs)
-  has_end inv h =
-      let long = length-take-le len xs fits in
-      sym (inv ∙ any_end (eqb v) (take len xs) i (omega arith))
+pub has_is : (v : ℕ) (xs : List ℕ) → list_any (λ y. eqb y v) xs ≡ has v xs
+unfolding has
+has_is v [] = refl
+has_is v (x ∷ xs) = let same : eqb x v ≡ eqb v x = grind (arith, nat_tests) in rw (same, has_is v xs)
 
 -- ---- a root that is n or more, or repeats an earlier one
 
@@ -64,9 +50,9 @@ pub bad_root_lem : (n : ℕ) (roots : List ℕ) (at : ℕ) → outside 1 64 (len
 unfolding row7 decide
 bad_root_lem n roots at e f h = rw (e, ← f, lt-ltb at (length roots) h)
 
-pub good_roots : (n : ℕ) (roots : List ℕ) (at : ℕ) → outside 1 64 (length roots) ≡ false → at ≡ first_bad_root n roots → length roots ≤ at → decide (row7 n roots ∷ []) ≡ passed
+pub good_roots : (n : ℕ) (roots : List ℕ) → outside 1 64 (length roots) ≡ false → length roots ≤ first_bad_root n roots → decide (row7 n roots ∷ []) ≡ passed
 unfolding row7 decide
-good_roots n roots at e f h = rw (e, ← f, le-ltb at (length roots) h)
+good_roots n roots e g = rw (e, le-ltb (first_bad_root n roots) (length roots) g)
 
 -- ---- rows 1, 2 and 3
 

@@ -5,20 +5,20 @@ use Prim.Native.Nat.{ℕ, ◌+◌, ◌*◌, ◌≤◌}
 use native.Mathlib.Nat.{mul-le-mul_right}
 use native.Mathlib.Omega.{arith}
 use borrow.Author.Tests.{eqb-true, not-false}
-use Rattle.rules.specs.declared.Answer.{Answer}
-use Rattle.rules.specs.declared.Answer.TheVariants.{Done, Refused}
+use Rattle.std.specs.Prelude.{Ok, Err}
+use Rattle.rules.specs.Answers.{Answer}
 use Rattle.rules.specs.declared.Refusal.{Refusal}
 use Rattle.rules.specs.Refusals.{Row, code_of, decide, decision_of, row1, row2, row3}
 use Rattle.rules.proofs.Tables.{all_fail, decide-append, decide-before, within}
 
 module _ (rs qs : List Row) {a : Answer} (e : decision_of a ≡ decide rs) where
   -- they refused: so does the whole table
-  pub by_answer : {r : Refusal} → a ≡ Refused r → decision_of a ≡ decide (rs ++ qs)
+  pub by_answer : {r : Refusal} → a ≡ Err r → decision_of a ≡ decide (rs ++ qs)
   unfolding decision_of
   by_answer {r} f = ap decision_of f ∙ sym (decide-before rs qs (code_of r) (sym e ∙ ap decision_of f))
 
   -- they passed: the others decide
-  pub past_answer : a ≡ Done → decide (rs ++ qs) ≡ decide qs
+  pub past_answer : a ≡ (Ok tt) → decide (rs ++ qs) ≡ decide qs
   unfolding decision_of
   past_answer f = decide-append rs qs (sym e ∙ ap decision_of f)
 
@@ -33,7 +33,7 @@ pub record Game (most dimension n lanes : ℕ) : Type 0 where
   pub some : 2 ≤ n
   pub long : lanes ≡ n * dimension
 
-pub game : {most dimension n lanes : ℕ} {a : Answer} → decision_of a ≡ decide (game_rows most dimension n lanes) → a ≡ Done → Game most dimension n lanes
+pub game : {most dimension n lanes : ℕ} {a : Answer} → decision_of a ≡ decide (game_rows most dimension n lanes) → a ≡ (Ok tt) → Game most dimension n lanes
 unfolding decision_of row1 row2 row3
 game {most} {dimension} {n} {lanes} e f =
     let F = all_fail (game_rows most dimension n lanes) (sym e ∙ ap decision_of f) in

@@ -1,50 +1,21 @@
 -- Zeros from a place on, and a test of every place below a number. Assumes nothing.
 use mathlib.Core.Path.{◌≡◌, refl, sym, ap, ◌∙◌}
 use mathlib.Core.Bool.{Bool, true, false, ◌&&◌}
-use mathlib.Core.List.{List, map}
-use Prim.Native.Nat.{ℕ, zero, suc, ◌+◌, ◌≤◌, ◌<◌}
+use Prim.Native.Nat.{ℕ, zero, suc, ◌+◌, ◌<◌}
 use native.Mathlib.Nat.{not-suc-le-zero}
 use native.Mathlib.Numerals.{add-one}
 use native.Mathlib.Omega.{arith}
-use borrow.Author.Tests.{ne_eqb, ltb-true, ltb-false}
+use borrow.Author.Tests.{ltb-true, ltb-false}
 use lib.Dec.{eqb, ltb}
-use lib.ListN.{length, drop, get_or, drop_of_length-le}
-use lib.Seq.{drop-cons}
-use lib.Ieee.{Float, nan, binary32, to_bits}
-use Rattle.zeros.specs.Zeros.{zeros, all_below}
+use lib.Ieee.{Float, nan, inf, fin, binary32, is_nan, to_bits}
+use Rattle.zeros.specs.Zeros.{all_below}
 
-pub bits-nan : (x : Float) → x ≡ nan → false ≡ eqb (to_bits binary32 x) 0
-unfolding to_bits
-bits-nan x e = rw e
-
--- ---- words: at place i
-
-module _ (xs : List ℕ) (i : ℕ) where
-  pub zeros_turn : i < length xs → get_or xs i 0 ≡ 0 → zeros (drop (i + 1) xs) ≡ zeros (drop i xs)
-  unfolding zeros
-  zeros_turn h e = rw (add-one, drop-cons xs i 0, e)
-
-  pub zeros-not : i < length xs → (get_or xs i 0 ≡ 0 → ⊥) → zeros (drop i xs) ≡ false
-  unfolding zeros
-  zeros-not h e = rw (drop-cons xs i 0, ne_eqb (get_or xs i 0) 0 e)
-
-  pub zeros-end : length xs ≤ i → zeros (drop i xs) ≡ true
-  unfolding zeros
-  zeros-end h = ap zeros (drop_of_length-le xs {i = i} h)
-
--- ---- floats: at place i
-
-abbrev pub bits_from : ℕ → List Float → List ℕ
-bits_from i xs = map (to_bits binary32) (drop i xs)
-
-module _ (xs : List Float) (i : ℕ) where
-  pub bits_turn : (b : Bool) → i < length xs → eqb (to_bits binary32 (get_or xs i nan)) 0 ≡ b → zeros (bits_from i xs) ≡ (b && zeros (bits_from (i + 1) xs))
-  unfolding zeros
-  bits_turn b h e = rw (add-one, drop-cons xs i nan, e)
-
-  pub bits-end : length xs ≤ i → zeros (bits_from i xs) ≡ true
-  unfolding zeros
-  bits-end h = ap (λ (l : List Float). zeros (map (to_bits binary32) l)) (drop_of_length-le xs {i = i} h)
+-- a NaN's bits are not zero
+pub bits_nan : (x : Float) → is_nan x ≡ true → eqb (to_bits binary32 x) 0 ≡ false
+unfolding is_nan to_bits
+bits_nan nan e = refl
+bits_nan (inf s) e = cc
+bits_nan (fin s m d) e = cc
 
 -- ---- every place below a number
 

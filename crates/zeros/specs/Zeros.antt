@@ -1,9 +1,9 @@
 -- "unused places and unused bits zero", and a test of every place below a number. Assumes nothing.
-use Rattle.std.specs.Prelude.{Bool, true, ◌&&◌, List, [], ◌∷◌, ℕ, zero, suc, eqb}
+use Rattle.std.specs.Prelude.{Bool, true, ◌&&◌, ◌==◌, List, ℕ, zero, suc}
+use Rattle.std.specs.List.{list_all}
 
 unfoldable pub zeros : List ℕ → Bool
-zeros [] = true
-zeros (x ∷ xs) = eqb x 0 && zeros xs
+zeros = list_all (λ x. x == 0)
 
 -- the test holds of 0, 1, .., n - 1
 unfoldable pub all_below : (ℕ → Bool) → ℕ → Bool

@@ -7,39 +7,24 @@ ghost use Rattle.std.specs.Float.Ieee.{to_bits};
 ghost use Rattle.zeros.specs.Zeros.{zeros};
 
 /// Whether all bits of a float are zero: -0.0 and a NaN are not.
+#[tactic(auto, using(crate::proofs::Laws::bits_nan))]
 pub fn zero_bits(x: f32) -> bool
     ensures { result ≡ eqb (to_bits binary32 x) 0 }
 {
-    if x != x {
-        return false;
-    }
-    f32::to_bits(x) == 0
+    !x.is_nan() && x.to_bits() == 0
 }
 
 /// Whether every word from `from` on is zero.
+#[tactic(auto, unfolding(crate::specs::Zeros::zeros))]
 pub fn words_zero(words: &[u32], from: usize) -> bool
     ensures { result ≡ zeros (drop from words.now) }
 {
-    let mut i = from;
-    while i < words.len() {
-        if words[i] != 0 {
-            return false;
-        }
-        i += 1;
-    }
-    true
+    words.iter().skip(from).all(|&w| w == 0)
 }
 
 /// Whether all bits of every float from `from` on are zero.
 pub fn floats_zero(floats: &[f32], from: usize) -> bool
     ensures { result ≡ zeros (map (to_bits binary32) (drop from floats.now)) }
 {
-    let mut i = from;
-    while i < floats.len() {
-        if !zero_bits(floats[i]) {
-            return false;
-        }
-        i += 1;
-    }
-    true
+    floats.iter().skip(from).all(|&x| zero_bits(x))
 }

@@ -1,11 +1,7 @@
 -- What the search leaves of `buffers::copy_bits`.
-use mathlib.Core.Path.{◌≡◌, ap, ◌∙◌}
-use mathlib.Core.List.{map}
-use Prim.Native.Nat.{ℕ}
 use native.Mathlib.Omega.{arith}
 use lib.ListN.{length-map, get_or-map}
 use lib.Ieee.{nan, binary32, to_bits}
-use Rattle.rules.specs.Loops.{over}
 use Rattle.buffers.proofs.Laws.{written_none, written-more}
 use borrow.Author.Rules.{rules}
 use Rattle.buffers.proofs.copy_bits.Goals as goal
@@ -13,19 +9,8 @@ use Rattle.buffers.proofs.copy_bits.Goals as goal
 pub loop-j-init : goal.loop-j-init
 loop-j-init c = (search rules, written_none _ _)
 
-pub float_to_bits-bits : goal.float_to_bits-bits
-float_to_bits-bits c = c.requires.by_index _ (omega arith)
-
 pub loop-j-preserved : goal.loop-j-preserved
 loop-j-preserved c =
     let inv = c.loop-j.invariant.1 in
     let long = length-map c.args.floats.now (to_bits binary32) in
     (search rules, written-more _ (to_bits binary32 nan) inv (omega arith) (omega arith) (get_or-map (to_bits binary32) c.args.floats.now c.loop-j.j nan))
-
-pub shape_of-bits : goal.shape_of-bits
-shape_of-bits c = c.loop-j.invariant.1.long
-
-pub returns : goal.returns
-returns c =
-    let e : c.loop-j.j ≡ c.args.m = omega arith in
-    c.loop-j.invariant.1.list ∙ ap (λ (k : ℕ). over k (map (to_bits binary32) c.args.floats.now) c.args.bits.now) e

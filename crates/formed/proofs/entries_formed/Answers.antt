@@ -1,24 +1,18 @@
--- What the search leaves of `formed::entries_formed`.
-use mathlib.Core.Path.{refl, sym, ◌∙◌}
-use borrow.Author.Tests.{not-true, not-false}
-use borrow.Author.Rules.{rules}
-use Rattle.formed.proofs.Laws.{entries-not, entries_turn, entries-end}
+-- `formed::entries_formed` meets its contract: the chain tests the pairs of the two slices. Assumes nothing.
+use mathlib.Core.Path.{◌∙◌}
+use Prim.Native.Nat.{ℕ}
+use lib.ListN.{take}
+use lib.Ieee.{Float}
+use Rattle.std.proofs.Common.{rules, tests}
+use Rattle.std.proofs.lemmas.Iterator.{YieldsList-from_slice, YieldsList-from_zip}
+use Rattle.std.proofs.lemmas.Iterator.Search.{all_from_yields_List}
+use Rattle.rules.specs.Lists.{neighbor}
+use Rattle.rules.specs.Offers.{entry_formed}
+use Rattle.formed.proofs.Laws.{entries_all}
 use Rattle.formed.proofs.entries_formed.Goals as goal
-
-pub loop-i-init : goal.loop-i-init
-loop-i-init c = (search rules, refl)
-
-pub returns-then-not-entry_formed : goal.returns-then-not-entry_formed
-returns-then-not-entry_formed c =
-    let pre = c.requires in
-    entries-not _ _ _ _ pre.0 pre.1 _ c.loop-i.invariant.1 c.loop-i-test.true (sym c.entry_formed.ensures ∙ not-true _ c.if-not-entry_formed.true-raw)
-
-pub loop-i-preserved : goal.loop-i-preserved
-loop-i-preserved c =
-    let pre = c.requires in
-    (search rules, entries_turn _ _ _ _ pre.0 pre.1 _ c.loop-i.invariant.1 c.loop-i-test.true (sym c.entry_formed.ensures ∙ not-false _ c.if-not-entry_formed.false-raw))
 
 pub returns : goal.returns
 returns c =
-    let pre = c.requires in
-    entries-end _ _ _ _ pre.0 pre.1 _ c.loop-i.invariant.1 c.loop-i-test.false
+    all_from_yields_List (λ (p : ℕ × Float). entry_formed c.args.n (neighbor p.0 p.1)) c.all.new.self _ c.all.result c.all.ensures.ran
+    (YieldsList-from_zip (YieldsList-from_slice (take c.args.len c.args.nodes.now) cc) (YieldsList-from_slice (take c.args.len c.args.dists.now) cc)) (λ x b q k. search (rules, tests))
+    ∙ entries_all _ _ _ _

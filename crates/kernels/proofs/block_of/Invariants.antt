@@ -1,12 +1,9 @@
 -- `block_of` meets its contract: the first t columns are filled.
 use mathlib.Core.Path.{◌≡◌}
-use Prim.Native.Nat.{◌≤◌, ◌-◌}
+use Prim.Native.Nat.{◌≤◌}
 use lib.ListN.{length}
 use Rattle.kernels.specs.Eight.{Holds}
 use Rattle.kernels.proofs.block_of.Given as goal
 
 abbrev pub invariant-loop-t : goal.invariant-loop-t
-invariant-loop-t l = (l.t ≤ 8) × (length l.block ≡ 512) × Holds l.lanes l.dimension l.n l.base l.t l.block
-
-abbrev pub decreases-loop-t : goal.decreases-loop-t
-decreases-loop-t l = 8 - l.t
+invariant-loop-t l = (l.t ≤ 8) × (length l.block ≡ 512) × Holds l.counters.lanes.now l.counters.dimension l.counters.n l.base l.t l.block

@@ -1,32 +1,26 @@
 -- What the search leaves of `clear`.
 use mathlib.Core.Path.{refl, sym, ◌∙◌}
 use borrow.Author.Rules.{rules}
-use borrow.Author.Tests.{not-true}
 use Rattle.rules.specs.Distance.{nodes_apart}
-use Rattle.metrics.proofs.Steps.{room}
-use Rattle.kernels.proofs.Laws.{not-not}
 use Rattle.kernels.proofs.Pairs.{totals_fit, fit_none, fit_turn, fit-not, fit-end}
 use Rattle.kernels.proofs.clear.Goals as goal
 
 pub loop-j-init : goal.loop-j-init
 loop-j-init c = (search rules, search rules, fit_none _ _ _ _ refl)
 
-pub lanes_of-y-requires : goal.lanes_of-y-requires
-lanes_of-y-requires c = room _ _ _ _ c.requires.0 (search rules)
-
 pub returns-then-not-all_fit : goal.returns-then-not-all_fit
 returns-then-not-all_fit c =
     let args = c.args in
-    fit-not (nodes_apart args.lanes.now args.dimension) args.n args.base c.loop-j.j (search rules) (search rules)
-    (sym (totals_fit args.lanes.now args.dimension args.n args.base _ _ c.totals8-totals.result c.loop-j.j c.block_of-block.ensures c.lanes_of-y.ensures.contents c.lanes_of-y.ensures.long c.totals8-totals.ensures) ∙ sym c.all_fit.ensures ∙ not-true _ c.if-not-all_fit.true-raw)
+    fit-not (nodes_apart args.counters.lanes.now args.counters.dimension) args.counters.n args.base c.loop-j.j (search rules) (search rules)
+    (sym (totals_fit args.counters.lanes.now args.counters.dimension args.counters.n args.base _ _ c.totals8-totals.result c.loop-j.j c.block_of-block.ensures c.lanes_of-y.ensures.contents c.lanes_of-y.ensures.long c.totals8-totals.ensures) ∙ sym c.all_fit.ensures ∙ c.if-not-all_fit.true)
 
 pub loop-j-preserved : goal.loop-j-preserved
 loop-j-preserved c =
     let args = c.args in (
       search rules,
       search rules,
-      fit_turn (nodes_apart args.lanes.now args.dimension) args.n args.base c.loop-j.j (search rules) c.loop-j.invariant.2
-          (sym (totals_fit args.lanes.now args.dimension args.n args.base _ _ c.totals8-totals.result c.loop-j.j c.block_of-block.ensures c.lanes_of-y.ensures.contents c.lanes_of-y.ensures.long c.totals8-totals.ensures) ∙ sym c.all_fit.ensures ∙ not-not _ c.if-not-all_fit.false-raw),
+      fit_turn (nodes_apart args.counters.lanes.now args.counters.dimension) args.counters.n args.base c.loop-j.j (search rules) c.loop-j.invariant.2
+          (sym (totals_fit args.counters.lanes.now args.counters.dimension args.counters.n args.base _ _ c.totals8-totals.result c.loop-j.j c.block_of-block.ensures c.lanes_of-y.ensures.contents c.lanes_of-y.ensures.long c.totals8-totals.ensures) ∙ sym c.all_fit.ensures ∙ c.if-not-all_fit.false),
     )
 
 pub returns : goal.returns

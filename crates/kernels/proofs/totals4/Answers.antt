@@ -1,11 +1,8 @@
 -- What the search leaves of `totals4`.
 use native.Mathlib.Omega.{arith}
 use borrow.Author.Rules.{rules}
-use Rattle.kernels.proofs.Fours.{left_none, left-more, left_end}
+use Rattle.kernels.proofs.Fours.{left-more, left_end}
 use Rattle.kernels.proofs.totals4.Goals as goal
-
-pub loop-l-init : goal.loop-l-init
-loop-l-init c = (search rules, left_none _ _, left_none _ _, left_none _ _, left_none _ _)
 
 pub loop-l-preserved : goal.loop-l-preserved
 loop-l-preserved c =

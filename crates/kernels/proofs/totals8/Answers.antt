@@ -1,11 +1,8 @@
 -- What the search leaves of `totals8`.
 use native.Mathlib.Omega.{arith}
 use borrow.Author.Rules.{rules}
-use Rattle.kernels.proofs.Laws.{summing_none, summing_more, summed}
+use Rattle.kernels.proofs.Laws.{summing_more, summed}
 use Rattle.kernels.proofs.totals8.Goals as goal
-
-pub loop-l-init : goal.loop-l-init
-loop-l-init c = (search rules, summing_none _ _)
 
 pub loop-l-preserved : goal.loop-l-preserved
 loop-l-preserved c = (search rules, summing_more c.loop-l.invariant.1 (search rules) c.lane8-next.ensures)

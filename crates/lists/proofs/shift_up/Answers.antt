@@ -1,5 +1,6 @@
 -- What the search leaves of `lists::shift_up`.
 use mathlib.Core.Path.{◌≡◌, refl, sym}
+use Prim.Native.Nat.{◌+◌, ◌-◌}
 use native.Mathlib.Omega.{arith}
 use lib.ListN.{length-set}
 use borrow.Author.Rules.{rules}
@@ -21,23 +22,12 @@ pub loop-i-preserved : goal.loop-i-preserved
 loop-i-preserved c =
     let inv = c.loop-i.invariant in
     let pre = c.requires in
+    let same : c.loop-i.i - 1 + 1 ≡ c.loop-i.i = omega arith in
     record {
       from = search rules;
       to = search rules;
-      nodes = hole_turn c.loop-i.i _ _ _ _ (search rules) inv.to pre.1 inv.nodes;
-      dists = hole_turn c.loop-i.i _ _ _ _ (search rules) inv.to pre.2 inv.dists;
+      nodes = rw same (hole_turn c.loop-i.i _ _ _ _ (search rules) inv.to pre.1 inv.nodes);
+      dists = rw same (hole_turn c.loop-i.i _ _ _ _ (search rules) inv.to pre.2 inv.dists);
       nodes_long = simp length-set inv.nodes_long;
       dists_long = simp length-set inv.dists_long;
     }
-
-pub shape_of-nodes : goal.shape_of-nodes
-shape_of-nodes c = c.loop-i.invariant.nodes_long
-
-pub shape_of-dists : goal.shape_of-dists
-shape_of-dists c = c.loop-i.invariant.dists_long
-
-pub returns : goal.returns
-returns c =
-    let inv = c.loop-i.invariant in
-    let done : c.loop-i.i ≡ c.args.p = omega arith in
-    record { nodes_after = (cc); dists_after = (cc) }

@@ -17,6 +17,3 @@ pub record Moved (ns : List ℕ) (ds : List Float) (p last : ℕ) (ns' : List �
 
 abbrev pub invariant-loop-i : goal.invariant-loop-i
 invariant-loop-i l = Moved l.initial.nodes l.initial.dists l.p l.last l.nodes l.dists l.i
-
-abbrev pub decreases-loop-i : goal.decreases-loop-i
-decreases-loop-i l = l.i

@@ -9,13 +9,7 @@ loop-done-init c = sorting_none
 pub loop-done-preserved : goal.loop-done-preserved
 loop-done-preserved c =
     let pre = c.requires in
-    sorting_turn c.loop-done.invariant pre.0 pre.1 _ _ (search rules) c.push-done.ensures
-
-pub shape_of-nodes : goal.shape_of-nodes
-shape_of-nodes c = c.loop-done.invariant.nodes_long
-
-pub shape_of-dists : goal.shape_of-dists
-shape_of-dists c = c.loop-done.invariant.dists_long
+    rw (← c.push.ensures.count) (sorting_turn c.loop-done.invariant pre.0 pre.1 _ _ c.loop-done-test.true (rw c.entry_at-e.ensures at c.push.ensures))
 
 pub returns : goal.returns
 returns c =

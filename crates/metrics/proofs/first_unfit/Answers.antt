@@ -1,9 +1,6 @@
 -- What the search leaves of `first_unfit`.
-use mathlib.Core.Path.{◌≡◌, sym, ◌∙◌, ap}
-use mathlib.Core.Bool.{Bool, true, false}
-use Prim.Native.Nat.{ℕ}
+use mathlib.Core.Path.{◌≡◌, sym, ◌∙◌}
 use native.Mathlib.Omega.{arith}
-use lib.Dec.{ltb}
 use borrow.Author.Rules.{rules}
 use borrow.Author.Tests.{lt-ltb, le-ltb}
 use Rattle.rules.specs.Distance.{nodes_apart}
@@ -11,48 +8,29 @@ use Rattle.rules.specs.Refusals.{first_unfit, decision_of, code_of}
 use Rattle.rules.proofs.Loops.{first-begun, first_turn, first-here, first-end}
 use Rattle.metrics.proofs.Pairs.{refuses, passes}
 use Rattle.metrics.proofs.first_unfit.Invariants.{test}
-use Rattle.metrics.proofs.first_unfit.Goals.{After-unfit_after-j}
 use Rattle.metrics.proofs.first_unfit.Goals as goal
 
--- what the test says of the place
-tested : (c : After-unfit_after-j) (b : Bool) → ltb c.unfit_after-j.result c.args.n ≡ b
-    → let args = c.args in test args.lanes.now args.dimension args.n c.loop-i.i ≡ b
-tested c b e = ap (λ (j : ℕ). ltb j c.args.n) (sym c.unfit_after-j.ensures) ∙ e
-
-pub loop-i-init : goal.loop-i-init
+pub loop-v-init : goal.loop-v-init
 unfolding first_unfit
-loop-i-init c = (search rules, first-begun _ c.args.n 0)
+loop-v-init c = (search rules, first-begun _ c.args.n 0)
 
-pub overflow_cast-i : goal.overflow_cast-i
-overflow_cast-i c = omega arith
-
-pub overflow_cast-result : goal.overflow_cast-result
-overflow_cast-result c = omega arith
-
-pub overflow_cast-result-then-j-n : goal.overflow_cast-result-then-j-n
-overflow_cast-result-then-j-n c = omega arith
-
-pub returns-then-j-n : goal.returns-then-j-n
+pub returns-in-Some : goal.returns-in-Some
 unfolding decision_of code_of
-returns-then-j-n c =
+returns-in-Some c =
     let n = c.args.n in
-    let f = first-here _ n c.loop-i.i (omega arith) (tested (goal.at.returns-then-j-n c).After-unfit_after-j true (lt-ltb _ _ c.if-j-n.true)) in
-    sym (refuses _ n c.loop-i.i c.unfit_after-j.result (omega arith) (sym c.loop-i.invariant.1 ∙ f) (sym c.unfit_after-j.ensures))
+    let found = c.in-Some.ensures in
+    let here = test c.args.lanes.now c.args.dimension n in
+    let f = first-here here n c.loop-v.v (omega arith) (lt-ltb _ _ found.1) in
+    sym (refuses _ n c.loop-v.v c.in-Some.j.0 (omega arith) (sym c.loop-v.invariant.1 ∙ f) (sym found.0))
 
-pub overflow_add-i : goal.overflow_add-i
-overflow_add-i c = omega arith
-
-pub loop-i-smaller : goal.loop-i-smaller
-loop-i-smaller c = omega arith
-
-pub loop-i-preserved : goal.loop-i-preserved
-loop-i-preserved c =
-    (omega arith, first_turn _ c.args.n c.loop-i.i (omega arith) (tested (goal.at.loop-i-preserved c).After-unfit_after-j false (le-ltb _ _ c.if-j-n.false)) ∙ c.loop-i.invariant.1)
+pub loop-v-preserved : goal.loop-v-preserved
+loop-v-preserved c =
+    (omega arith, first_turn _ c.args.n c.loop-v.v (omega arith) (le-ltb _ _ c.in_default.ensures) ∙ c.loop-v.invariant.1)
 
 pub returns : goal.returns
 unfolding decision_of
 returns c =
     let n = c.args.n in
-    let f = first-end (test c.args.lanes.now c.args.dimension n) n c.loop-i.i (omega arith) in
-    let e : first_unfit (nodes_apart c.args.lanes.now c.args.dimension) n ≡ c.loop-i.i = sym c.loop-i.invariant.1 ∙ f in
+    let f = first-end (test c.args.lanes.now c.args.dimension n) n c.loop-v.v (omega arith) in
+    let e : first_unfit (nodes_apart c.args.lanes.now c.args.dimension) n ≡ c.loop-v.v = sym c.loop-v.invariant.1 ∙ f in
     sym (passes _ n (omega arith))

@@ -14,8 +14,5 @@ use Rattle.metrics.proofs.first_unfit.Given as goal
 abbrev pub test : List Float → ℕ → ℕ → ℕ → Bool
 test lanes dimension n i = ltb (unfit_after (nodes_apart lanes dimension) n i) n
 
-abbrev pub invariant-loop-i : goal.invariant-loop-i
-invariant-loop-i l = (l.i ≤ l.n) × (first_from (test l.lanes l.dimension l.n) l.i (l.n - l.i) ≡ first_unfit (nodes_apart l.lanes l.dimension) l.n)
-
-abbrev pub decreases-loop-i : goal.decreases-loop-i
-decreases-loop-i l = l.n - l.i
+abbrev pub invariant-loop-v : goal.invariant-loop-v
+invariant-loop-v l = (l.v ≤ l.n) × (first_from (test l.lanes l.dimension l.n) l.v (l.n - l.v) ≡ first_unfit (nodes_apart l.lanes l.dimension) l.n)

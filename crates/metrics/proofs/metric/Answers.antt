@@ -26,12 +26,6 @@ offset_bounds-b-i c = omega arith
 pub bounds-b-i : goal.bounds-b-i
 bounds-b-i c = omega arith
 
-pub overflow_add-i : goal.overflow_add-i
-overflow_add-i c = omega arith
-
-pub loop-i-smaller : goal.loop-i-smaller
-loop-i-smaller c = omega arith
-
 pub loop-i-preserved : goal.loop-i-preserved
 unfolding lane
 loop-i-preserved c =

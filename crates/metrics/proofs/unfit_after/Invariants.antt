@@ -13,8 +13,5 @@ use Rattle.metrics.proofs.unfit_after.Given as goal
 abbrev pub test : List Float → ℕ → ℕ → ℕ → Bool
 test lanes dimension i j = unfit (nodes_apart lanes dimension i j)
 
-abbrev pub invariant-loop-j : goal.invariant-loop-j
-invariant-loop-j l = (l.j ≤ l.n) × (first_from (test l.lanes l.dimension l.i.0) l.j (l.n - l.j) ≡ unfit_after (nodes_apart l.lanes l.dimension) l.n l.i.0)
-
-abbrev pub decreases-loop-j : goal.decreases-loop-j
-decreases-loop-j l = l.n - l.j
+abbrev pub invariant-loop-v : goal.invariant-loop-v
+invariant-loop-v l = (l.v ≤ l.n) × (first_from (test l.lanes l.dimension l.i.0) l.v (l.n - l.v) ≡ unfit_after (nodes_apart l.lanes l.dimension) l.n l.i.0)

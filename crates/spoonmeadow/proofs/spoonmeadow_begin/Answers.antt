@@ -3,4 +3,4 @@ use Rattle.spoonmeadow.proofs.Laws.{begun}
 use Rattle.spoonmeadow.proofs.spoonmeadow_begin.Goals as goal
 
 pub returns : goal.returns
-returns c = begun c.of_answer.ensures c.begin-a.ensures
+returns c = begun c.from.ensures c.begin.ensures

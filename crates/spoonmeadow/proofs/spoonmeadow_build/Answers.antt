@@ -3,4 +3,4 @@ use Rattle.spoonmeadow.proofs.Laws.{built}
 use Rattle.spoonmeadow.proofs.spoonmeadow_build.Goals as goal
 
 pub returns : goal.returns
-returns c = built c.of_answer.ensures c.build-a.ensures
+returns c = built c.from.ensures c.build.ensures

@@ -3,4 +3,4 @@ use Rattle.spoonmeadow.proofs.Laws.{closed}
 use Rattle.spoonmeadow.proofs.spoonmeadow_close.Goals as goal
 
 pub returns : goal.returns
-returns c = closed c.of_answer.ensures c.close-a.ensures
+returns c = closed c.from.ensures c.close.ensures

@@ -3,4 +3,4 @@ use Rattle.spoonmeadow.proofs.Laws.{iterated}
 use Rattle.spoonmeadow.proofs.spoonmeadow_iterate.Goals as goal
 
 pub returns : goal.returns
-returns c = iterated c.of_iterate.ensures c.iterate-a.ensures
+returns c = iterated c.from.ensures c.iterate.ensures

@@ -3,4 +3,4 @@ use Rattle.spoonmeadow.proofs.Laws.{moved}
 use Rattle.spoonmeadow.proofs.spoonmeadow_move_job.Goals as goal
 
 pub returns : goal.returns
-returns c = moved c.of_answer.ensures c.move_job-a.ensures
+returns c = moved c.from.ensures c.move_job.ensures

@@ -3,4 +3,4 @@ use Rattle.spoonmeadow.proofs.Laws.{opened}
 use Rattle.spoonmeadow.proofs.spoonmeadow_open.Goals as goal
 
 pub returns : goal.returns
-returns c = opened c.of_answer.ensures c.open-a.ensures
+returns c = opened c.from.ensures c.open.ensures

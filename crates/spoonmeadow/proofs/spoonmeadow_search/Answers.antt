@@ -3,4 +3,4 @@ use Rattle.spoonmeadow.proofs.Laws.{searched}
 use Rattle.spoonmeadow.proofs.spoonmeadow_search.Goals as goal
 
 pub returns : goal.returns
-returns c = searched c.of_search.ensures c.search-a.ensures
+returns c = searched c.from.ensures c.search.ensures

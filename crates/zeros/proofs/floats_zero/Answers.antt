@@ -1,18 +1,19 @@
--- What the search leaves of `zeros::floats_zero`.
-use mathlib.Core.Path.{refl, sym, ◌∙◌}
-use mathlib.Core.Bool.{true, false}
-use borrow.Author.Tests.{not-true, not-false}
-use Rattle.zeros.proofs.Laws.{bits_turn, bits-end}
+-- `zeros::floats_zero` meets its contract: the floats pass the test that their bits do. Assumes nothing.
+use mathlib.Core.Path.{sym, ◌∙◌}
+use lib.Dec.{eqb}
+use lib.Ieee.{Float, binary32, to_bits}
+use lib.ListN.{drop}
+use Rattle.std.proofs.Common.{rules, tests}
+use Rattle.std.proofs.lemmas.List.Folds.{list_all-map}
+use Rattle.std.proofs.lemmas.Iterator.{YieldsList-from_slice}
+use Rattle.std.proofs.lemmas.Iterator.Adapters.{YieldsList-from_skip}
+use Rattle.std.proofs.lemmas.Iterator.Search.{all_from_yields_List}
+use Rattle.zeros.specs.Zeros.{zeros}
 use Rattle.zeros.proofs.floats_zero.Goals as goal
 
-pub loop-i-init : goal.loop-i-init
-loop-i-init c = refl
-
-pub returns-then-not-zero_bits : goal.returns-then-not-zero_bits
-returns-then-not-zero_bits c = sym (bits_turn _ _ false c.loop-i-test.true (sym c.zero_bits.ensures ∙ not-true _ c.if-not-zero_bits.true-raw)) ∙ c.loop-i.invariant
-
-pub loop-i-preserved : goal.loop-i-preserved
-loop-i-preserved c = sym (bits_turn _ _ true c.loop-i-test.true (sym c.zero_bits.ensures ∙ not-false _ c.if-not-zero_bits.false-raw)) ∙ c.loop-i.invariant
-
 pub returns : goal.returns
-returns c = sym (bits-end _ _ c.loop-i-test.false) ∙ c.loop-i.invariant
+unfolding zeros
+returns c =
+    all_from_yields_List (λ (x : Float). eqb (to_bits binary32 x) 0) _ _ _ c.all.ensures.ran
+    (YieldsList-from_skip c.args.from (YieldsList-from_slice c.args.floats.now cc) c.skip.ensures.count) (λ x b q k. search (rules, tests))
+    ∙ sym (list_all-map (λ x. eqb x 0) (to_bits binary32) (drop c.args.from c.args.floats.now))
