@@ -6,8 +6,8 @@ use Prim.Native.Nat.{ℕ, ◌-◌, ◌*◌, ◌≤◌, ◌<◌, min}
 use native.Mathlib.Omega.{arith}
 use lib.ListN.{length, replicate}
 use lib.Ieee.{Float}
-use Rattle.rules.specs.declared.Answer.{Answer}
-use Rattle.rules.specs.declared.Answer.TheVariants.{Done, Refused}
+use Rattle.std.specs.Prelude.{Ok, Err}
+use Rattle.rules.specs.Answers.{Answer}
 use Rattle.rules.specs.declared.Refusal.{Refusal}
 use Rattle.rules.specs.declared.Neighbor.{Neighbor}
 use Rattle.rules.specs.Lists.{node_of, entries, sort}
@@ -24,7 +24,7 @@ use Rattle.hops.proofs.Laws.{all-candidates}
 use Rattle.taught.specs.Taught.{Taught}
 use Rattle.prune.specs.Chosen.{AllBelow}
 use Rattle.prune.proofs.Laws.{below-sort, below-choose}
-use Rattle.pruned.specs.Pruned.{Given, PrunedAll}
+use Rattle.pruned.specs.Pruned.{Given}
 use Rattle.offers.proofs.Laws.{sound-row_of, sound-each}
 use Rattle.offers.specs.Sound.{Sound}
 use Rattle.links.specs.Links.{Room, Linked, links_all}
@@ -63,11 +63,6 @@ module _ {l : BuildLent} (ready : Ready l) where
         room = omega arith;
         each = rw e taught.each;
       }
-
-  pub sliced : {su graph : List ℕ} {sf sf' : List Float} → Taught (between l.lanes l.dimension) l.n l.sizes.init_k l.scratch_u l.scratch_f su sf
-      → PrunedAll (between l.lanes l.dimension) l.n l.sizes l.graph sf graph sf' → Sliced l graph su sf'
-  sliced taught made =
-      record { slots = made.slots; graph_long = made.nodes_long; words_long = taught.long; floats_long = made.dists_long ∙ taught.row_long }
 
 -- ---- step 4 leaves slots that can be linked: every candidate is below n
 
@@ -133,22 +128,22 @@ module _ {l : BuildLent} (ready : Ready l) {graph su : List ℕ} {sf : List Floa
 -- ---- the whole call
 
 module _ (l : BuildLent) where
-  pub built_refused : {a : Answer} {r : Refusal} → decision_of a ≡ decide (build_table l) → a ≡ Refused r → Built l (Refused r) l.graph l.scratch_u l.scratch_f
+  pub built_refused : {a : Answer} {r : Refusal} → decision_of a ≡ decide (build_table l) → a ≡ Err r → Built l (Err r) l.graph l.scratch_u l.scratch_f
   unfolding build_rule build_obeys said_of decision_of
   built_refused {a} {r} e f = record { whole = ap (build_obeys l) (sym (ap decision_of f) ∙ e) }
 
-  pub no_row : {a : Answer} → decision_of a ≡ decide (build_table l) → a ≡ Done → decide (build_table l) ≡ passed
+  pub no_row : {a : Answer} → decision_of a ≡ decide (build_table l) → a ≡ (Ok tt) → decide (build_table l) ≡ passed
   unfolding decision_of
   no_row e f = sym e ∙ ap decision_of f
 
-  pub built_worked : {graph su : List ℕ} {sf : List Float} → decide (build_table l) ≡ passed → Worked l graph su sf → Built l Done graph su sf
+  pub built_worked : {graph su : List ℕ} {sf : List Float} → decide (build_table l) ≡ passed → Worked l graph su sf → Built l (Ok tt) graph su sf
   unfolding build_rule build_obeys said_of
   built_worked {graph} {su} {sf} e w =
       record {
         whole =
-            ap (λ (g : List ℕ). build_left Done g su sf) w.graph_is
-            ∙ ap (λ (xs : List ℕ). build_left Done (graph_of (between l.lanes l.dimension) l.n l.sizes) xs sf) w.words
-            ∙ ap (build_left Done (graph_of (between l.lanes l.dimension) l.n l.sizes) (replicate (length l.scratch_u) 0)) w.floats
+            ap (λ (g : List ℕ). build_left (Ok tt) g su sf) w.graph_is
+            ∙ ap (λ (xs : List ℕ). build_left (Ok tt) (graph_of (between l.lanes l.dimension) l.n l.sizes) xs sf) w.words
+            ∙ ap (build_left (Ok tt) (graph_of (between l.lanes l.dimension) l.n l.sizes) (replicate (length l.scratch_u) 0)) w.floats
             ∙ ap (build_obeys l) (sym e);
       }
 

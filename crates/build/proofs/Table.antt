@@ -2,75 +2,29 @@
 use mathlib.Core.Path.{◌≡◌, sym, ◌∙◌}
 use mathlib.Core.Bool.{Bool, true, false}
 use mathlib.Core.List.{List, [], ◌∷◌}
-use Prim.Native.Nat.{ℕ, ◌*◌, ◌≤◌, ◌<◌}
-use borrow.Author.Tests.{ltb-false, eqb-true, not-false, eq-eqb, ne_eqb, lt-ltb, le-ltb}
-use lib.Dec.{ltb}
+use Prim.Native.Nat.{ℕ, ◌*◌, ◌≤◌}
+use borrow.Author.Tests.{ltb-false, eqb-true, not-false}
 use lib.ListN.{length}
-use lib.Ieee.{Float, le}
-use Rattle.rules.specs.declared.Answer.{Answer}
-use Rattle.rules.specs.declared.Answer.TheVariants.{Done, Refused}
+use Rattle.std.specs.Prelude.{Ok, Err}
+use Rattle.rules.specs.Answers.{Answer}
 use Rattle.rules.specs.declared.Refusal.{Refusal}
 use Rattle.rules.specs.Loops.{any_of}
-use Rattle.rules.specs.Numbers.{outside, bad_threshold, one, minus_one}
+use Rattle.rules.specs.Numbers.{outside, bad_threshold}
 use Rattle.rules.specs.Distance.{nodes_apart}
 use Rattle.rules.specs.Refusals.{Row, code, passed, refused, decide, decision_of, holds, not_exactly, less_than, row1, row2, row3, row4, row5, row6, row10}
 use Rattle.rules.specs.Calls.{build_scratch, build_rows}
 use Rattle.rules.specs.BuildCall.{BuildLent, build_table}
 use Rattle.rules.proofs.Tables.{all_fail, held, left, none_hold, within}
-use Rattle.rules.proofs.Tests.{or-false}
 use Rattle.table.proofs.Rows.{by_answer, past_answer, game_rows}
 use Rattle.build.specs.Build.{Ready}
 
--- ---- row 4
+-- ---- rows 4 and 6
 
-module _ (k w hops : ℕ) where
-  abbrev pub ranges : List Bool
-  ranges = outside 1 64 k ∷ outside 1 64 w ∷ outside 1 256 hops ∷ []
+abbrev pub ranges : ℕ → ℕ → ℕ → List Bool
+ranges k w hops = outside 1 64 k ∷ outside 1 64 w ∷ outside 1 256 hops ∷ []
 
-  pub wrong_k : outside 1 64 k ≡ true → true ≡ any_of holds ranges
-  unfolding any_of
-  wrong_k e = rw e
-
-  pub wrong_width : outside 1 64 k ≡ false → outside 1 64 w ≡ true → true ≡ any_of holds ranges
-  unfolding any_of
-  wrong_width e f = rw (e, f)
-
-  pub wrong_hops : outside 1 64 k ≡ false → outside 1 64 w ≡ false → outside 1 256 hops ≡ any_of holds ranges
-  unfolding any_of
-  wrong_hops e f = rw (e, f) (or-false (outside 1 256 hops))
-
--- ---- row 5
-
-module _ (t : Float) where
-  pub good_threshold : le minus_one t ≡ true → le t one ≡ true → false ≡ bad_threshold t
-  unfolding bad_threshold
-  good_threshold e f = rw (e, f)
-
-  pub threshold_above : le minus_one t ≡ true → le t one ≡ false → true ≡ bad_threshold t
-  unfolding bad_threshold
-  threshold_above e f = rw (e, f)
-
-  pub threshold-below : le minus_one t ≡ false → true ≡ bad_threshold t
-  unfolding bad_threshold
-  threshold-below e = rw e
-
--- ---- row 6
-
-module _ (n k w graph words floats : ℕ) where
-  abbrev pub lengths : List Bool
-  lengths = not_exactly (n * w) graph ∷ less_than (build_scratch n k w) words ∷ less_than (build_scratch n k w) floats ∷ []
-
-  pub wrong_graph : (graph ≡ n * w → ⊥) → true ≡ any_of holds lengths
-  unfolding any_of
-  wrong_graph e = rw (ne_eqb graph (n * w) e)
-
-  pub wrong_words : graph ≡ n * w → words < build_scratch n k w → true ≡ any_of holds lengths
-  unfolding any_of
-  wrong_words e h = rw (eq-eqb graph (n * w) e, lt-ltb words (build_scratch n k w) h)
-
-  pub wrong_floats : graph ≡ n * w → build_scratch n k w ≤ words → ltb floats (build_scratch n k w) ≡ any_of holds lengths
-  unfolding any_of
-  wrong_floats e h = rw (eq-eqb graph (n * w) e, le-ltb words (build_scratch n k w) h) (or-false (ltb floats (build_scratch n k w)))
+abbrev pub lengths : ℕ → ℕ → ℕ → ℕ → ℕ → ℕ → List Bool
+lengths n k w graph words floats = not_exactly (n * w) graph ∷ less_than (build_scratch n k w) words ∷ less_than (build_scratch n k w) floats ∷ []
 
 -- ---- the rows in order
 
@@ -91,11 +45,11 @@ module _ (l : BuildLent) where
   later = sizes_row ∷ row5 l.sizes.threshold ∷ lengths_row ∷ pairs_row ∷ []
 
   module _ {a : Answer} (e : decision_of a ≡ decide first) where
-    pub by_game : {r : Refusal} → a ≡ Refused r → decision_of a ≡ decide (build_table l)
+    pub by_game : {r : Refusal} → a ≡ Err r → decision_of a ≡ decide (build_table l)
     unfolding build_table build_rows
     by_game f = by_answer first later e f
 
-    module _ (f : a ≡ Done) where
+    module _ (f : a ≡ (Ok tt)) where
       past_game : decide (build_table l) ≡ decide later
       unfolding build_table build_rows
       past_game = past_answer first later e f

@@ -1,6 +1,6 @@
 -- What the entry `build` is lent, what it counts on once the table has passed, and what it leaves. Assumes nothing.
 use Rattle.std.specs.Prelude.{◌≡◌, List, ℕ, ◌*◌, ◌≤◌, length, replicate, Float}
-use Rattle.rules.specs.declared.Answer.{Answer}
+use Rattle.rules.specs.Answers.{Answer}
 use Rattle.rules.specs.Lists.{entries}
 use Rattle.rules.specs.Distance.{between, zero32}
 use Rattle.rules.specs.Calls.{build_scratch}

@@ -1,14 +1,14 @@
 -- Laws of step 1 over plain lists: the distances of a node to others, the nodes offered, the list turned round. Assumes nothing.
 use mathlib.Core.Path.{◌≡◌, refl, sym, ap, subst, ◌∙◌}
-use mathlib.Core.Bool.{Bool, true, false, cond}
+use mathlib.Core.Bool.{Bool, true, false, cond, not}
 use mathlib.Core.List.{List, [], ◌∷◌, ◌++◌, map, reverse, append-nil, map-append}
 use Prim.Native.Nat.{ℕ, zero, suc, ◌+◌, ◌-◌, ◌*◌, ◌≤◌, ◌<◌, zero-le, suc-le-suc, min}
 use native.Mathlib.Nat.{le_of_suc-le-suc, not-suc-le-zero}
 use native.Mathlib.Numerals.{add-one}
 use native.Mathlib.Omega.{arith}
 use lib.Dec.{T, eqb, ltb, leb}
-use lib.ListN.{length, take, drop, get_or, length-append, length-map, length-reverse, get_or-append, get_or-map}
-use lib.Seq.{take-nil, get_or-take, take_at, drop_at, take_all, length-take-le}
+use lib.ListN.{length, take, drop, get_or, length-append, length-map, length-reverse, get_or-append}
+use lib.Seq.{take-nil, take_at, drop_at, take_all, length-take-le}
 use lib.Ieee.{Float, nan, lt}
 use borrow.Author.Tests.{ltb-false, eqb-true, eqb-false, eq-eqb, ne_eqb, leb-true, le-leb, lt-leb}
 use Rattle.rules.specs.declared.Neighbor.{Neighbor}
@@ -26,7 +26,7 @@ use Rattle.lists.specs.Lists.{PushedCut}
 use Rattle.lists.specs.Ascending.{AllHoldable, Ascending}
 use Rattle.lists.proofs.Laws.{take-insert, sort-append, length-least, place-le, place-behind, holdable_at, holdable_take, holdable_sort, ascending-take, ascending-sort}
 use Rattle.lists.proofs.Slices.{length-entries, get_d_entries, nodes_of-entries, pushed_none}
-use Rattle.lists.proofs.Plain.{drop-later, get_d_reverse, all_append, all_take, all-reverse, all_map, all_weaker, all-sort, all_holdable, map_same}
+use Rattle.lists.proofs.Plain.{drop-later, all_append, all_take, all-reverse, all_map, all_weaker, all-sort, all_holdable, map_same}
 use Rattle.exact.specs.Exact.{distances_from, always, apart_in, HoldsRow, Other, farthest, Offered, Gathered, Listed, Exact}
 
 -- ---- the distances of a node to all
@@ -60,9 +60,6 @@ holds-distances lanes dimension n q row row' e i h =
 module _ (f : ℕ → Float) (vs : List ℕ) (len : ℕ) (h : len ≤ length vs) where
   pub length_some : length (map f (take len vs)) ≡ len
   length_some = length-map (take len vs) f ∙ length-take-le len vs h
-
-  pub get_d_some : (i a : ℕ) → i < len → get_or (map f (take len vs)) i (f a) ≡ f (get_or vs i a)
-  get_d_some i a l = get_or-map f (take len vs) i a ∙ ap f (get_or-take len vs i a l)
 
 -- beside their nodes they are entries
 entries-front : (d : Between) (q len : ℕ) (vs : List ℕ) (tail : List Float) → len ≤ length vs → entries len vs (take len (map (d q) (take len vs)) ++ tail) ≡ map (entry d q) (take len vs)
@@ -144,6 +141,12 @@ module _ (ns : List ℕ) (ds : List Float) (len k : ℕ) (e : Neighbor) (one : 1
       let same = get_d_entries len (len - 1) ns ds a d e (omega arith) h g in
       let at = place-behind e (entries len ns ds) (len - 1) e E X s (omega arith) (ap (before e) same ∙ b) in
       sym (le-leb k (place e (entries len ns ds)) (omega arith))
+
+  -- the look at the last decides
+  pub behind-looked : (a : ℕ) (d : Float) → k ≤ len → Holdable e.distance → AllHoldable (entries len ns ds) → Ascending (entries len ns ds)
+      → (b : Bool) → b ≡ before e (neighbor (get_or ns (len - 1) a) (get_or ds (len - 1) d)) → not b ≡ leb k (place e (entries len ns ds))
+  behind-looked a d m E X s true q = behind-not a d m (sym q)
+  behind-looked a d m E X s false q = behind-last a d m E X s (sym q)
 
 -- ---- one node offered
 
@@ -301,12 +304,6 @@ length_exact d n k q h =
 pub exact_same : (d e : Between) (n k q : ℕ) → ((i : ℕ) → i < n → d q i ≡ e q i) → exact_list d n k q ≡ exact_list e n k q
 unfolding exact_list
 exact_same d e n k q same = ap (λ (es : List Neighbor). reverse (nodes_of (least k es))) (entries-same d e n q same)
-
--- what is read from the end of a list
-pub get_d_turned : {A : Type 0} (xs : List A) (len i : ℕ) (z : A) → len ≤ length xs → i < len → get_or (reverse (take len xs)) i z ≡ get_or xs (len - 1 - i) z
-get_d_turned xs len i z h l =
-    let m = length-take-le len xs h in
-    get_d_reverse (take len xs) i z (omega arith) ∙ ap (λ (j : ℕ). get_or (take len xs) (j - 1 - i) z) m ∙ get_or-take len xs (len - 1 - i) z (omega arith)
 
 pub length_turned : {A : Type 0} (xs : List A) (len : ℕ) → len ≤ length xs → length (reverse (take len xs)) ≡ len
 length_turned xs len h = length-reverse (take len xs) ∙ length-take-le len xs h

@@ -4,23 +4,22 @@
 ghost use Rattle.std.specs.Prelude.{◌≡◌, map, reverse, ◌+◌, ◌*◌, ◌≤◌, ◌<◌, leb, length, take};
 ghost use Rattle.rules.specs.Loops.{over};
 ghost use Rattle.rules.specs.Lists.{entries, place};
-ghost use Rattle.rules.specs.Distance.{between};
+ghost use Rattle.metrics.specs.Counters.{between};
 ghost use Rattle.neighbor.specs.Holdable.{Holdable};
 ghost use Rattle.lists.specs.All.{All};
 ghost use Rattle.lists.specs.Ascending.{AllHoldable, Ascending};
 ghost use Rattle.exact.specs.Exact.{distances_from, always, apart_in, HoldsRow, farthest, PutEight, Eight, Offered, Considered, Gathered, Listed, Exact};
 
+use metrics::Counters;
 use rules::{Neighbor, NodeId};
 
 /// Writes the distances of `q` to the nodes 0, 1, .., n - 1 to the first n places of `out`.
-pub fn distances_from(lanes: &[f32], dimension: usize, n: usize, q: NodeId, out: &mut [f32])
-    requires { (length lanes.now ≡ n * dimension) × (n ≤ 4096) × (q.0 < n) × (n ≤ length out.old) }
-    ensures { out.new ≡ over n (distances_from (between lanes.now dimension) n q.0) out.old }
+pub fn distances_from(counters: Counters<'_>, q: NodeId, out: &mut [f32])
+    requires { (q.0 < counters.n) × (counters.n ≤ length out.old) × (counters.n ≤ 4096) }
+    ensures { out.new ≡ over counters.entry.n (distances_from (between counters.entry) counters.entry.n q.0) out.old }
 {
-    let mut i = 0usize;
-    while i < n {
-        out[i] = metrics::between(lanes, dimension, q, NodeId(i as u32));
-        i += 1;
+    for p in 0..counters.n {
+        out[p] = counters.between(q, NodeId(p as u32));
     }
 }
 
@@ -29,47 +28,33 @@ fn put_eight(rows: &mut [f32], at: usize, totals: [f32; 8])
     requires { at + 8 ≤ length rows.old }
     ensures { PutEight rows.old at totals 8 rows.new }
 {
-    let mut t = 0usize;
-    while t < 8 {
-        rows[at + t] = kernels::carried(totals[t]);
-        t += 1;
+    for (t, &total) in totals.iter().enumerate() {
+        rows[at + t] = kernels::carried(total);
     }
 }
 
 /// Writes the distances of the eight nodes from `base` on to the nodes 0, 1, .., n - 1: those of node i from place 8i on.
 /// Where there are fewer than eight, the further places hold distances that nothing asks for.
-pub fn distances_eight(lanes: &[f32], dimension: usize, n: usize, base: usize, rows: &mut [f32])
-    requires { (length lanes.now ≡ n * dimension) × (n ≤ 4096) × (dimension ≤ 64) × (base < n) × (n * 8 ≤ length rows.old) }
-    ensures { Eight (between lanes.now dimension) n base n rows.new }
+pub fn distances_eight(counters: Counters<'_>, base: usize, rows: &mut [f32])
+    requires { (counters.dimension ≤ 64) × (base < counters.n) × (counters.n * 8 ≤ length rows.old) × (counters.n ≤ 4096) }
+    ensures { Eight (between counters.entry) counters.entry.n base counters.entry.n rows.new }
 {
-    let block = kernels::block_of(lanes, dimension, n, base);
-    let mut i = 0;
-    while i < n {
-        let y = metrics::lanes_of(lanes, dimension, NodeId(i as u32));
+    let block = kernels::block_of(counters, base);
+    for i in 0..counters.n {
+        let y = counters.lanes_of(NodeId(i as u32));
         let totals = kernels::totals8(y, &block);
         put_eight(rows, i * 8, totals);
-        i += 1;
     }
 }
 
 /// Writes the distances of `q` to the first `len` of `nodes` to the first `len` places of `dists`, and so makes entries of them.
-pub fn distances_to(
-    lanes: &[f32],
-    dimension: usize,
-    n: usize,
-    q: NodeId,
-    nodes: &[u32],
-    len: usize,
-    dists: &mut [f32],
-)
-    requires lanes_len { (length lanes.now ≡ n * dimension) × (q.0 < n) × All (λ v. v < n) (take len nodes.now) }
+pub fn distances_to(counters: Counters<'_>, q: NodeId, nodes: &[u32], len: usize, dists: &mut [f32])
+    requires within { (q.0 < counters.n) × All (λ v. v < counters.n) (take len nodes.now) }
     requires len_in_bounds { (len ≤ length nodes.now) × (len ≤ length dists.old) }
-    ensures { dists.new ≡ over len (map (between lanes.now dimension q.0) (take len nodes.now)) dists.old }
+    ensures { dists.new ≡ over len (map (between counters.entry q.0) (take len nodes.now)) dists.old }
 {
-    let mut i = 0;
-    while i < len {
-        dists[i] = metrics::between(lanes, dimension, q, NodeId(nodes[i]));
-        i += 1;
+    for (i, &node) in nodes[..len].iter().enumerate() {
+        dists[i] = counters.between(q, NodeId(node));
     }
 }
 
@@ -82,14 +67,11 @@ fn goes_behind(nodes: &[u32], dists: &[f32], len: usize, k: usize, e: Neighbor) 
     if len < k {
         return false;
     }
-    let x = Neighbor {
+    let last = Neighbor {
         node: NodeId(nodes[len - 1]),
         distance: dists[len - 1],
     };
-    if neighbor::precedes(e, x) {
-        return false;
-    }
-    true
+    !neighbor::precedes(e, last)
 }
 
 // Pushes node `i` at the distance `x` into the list of the first `len` entries, and keeps the least `k`; `q` itself is passed over.
@@ -121,14 +103,12 @@ fn offer(
 }
 
 // The distance that nothing farther than it can be among the least `k`: the last one's, and the mark of an empty slot where there are fewer.
+#[tactic(auto, unfolding(crate::specs::Exact::farthest))]
 fn farthest(dists: &[f32], len: usize, k: usize) -> f32
     requires { (1 ≤ k) × (len ≤ k) × (len ≤ length dists.now) }
     ensures { result ≡ farthest dists.now len k }
 {
-    if len < k {
-        return 3.4028235e38;
-    }
-    dists[len - 1]
+    if len < k { f32::MAX } else { dists[len - 1] }
 }
 
 // A list's length, and its farthest distance as `farthest` gives it.
@@ -155,17 +135,11 @@ fn consider(
     ensures { Considered (always x) q.0 i k nodes.old dists.old len nodes.new dists.new result.len result.bound }
 {
     if bound < x {
-        return Kept {
-            len: len,
-            bound: bound,
-        };
+        return Kept { len, bound };
     }
-    let longer = offer(x, q, i, nodes, dists, len, k);
-    let next = farthest(dists, longer, k);
-    Kept {
-        len: longer,
-        bound: next,
-    }
+    let len = offer(x, q, i, nodes, dists, len, k);
+    let bound = farthest(dists, len, k);
+    Kept { len, bound }
 }
 
 // Gathers the least `init_k` of the other nodes, nearest first, by the distances in `row`, one in each `step` places from `at` on.
@@ -185,26 +159,22 @@ fn gather(
 {
     let mut len = 0;
     let mut bound = farthest(dists, 0, init_k);
-    let mut i = 0;
-    while i < n {
+    for i in 0..n {
         let kept = consider(row[i * step + at], bound, q, i, nodes, dists, len, init_k);
         len = kept.len;
         bound = kept.bound;
-        i += 1;
     }
     len
 }
 
 // Writes the first `len` of `nodes` to the front of `out`, the last first.
+#[tactic(auto, using(std::proofs::lemmas::Slice::overwrites), unfolding(rules::specs::Loops::over))]
 fn turn_round(nodes: &[u32], len: usize, out: &mut [u32])
     requires { (len ≤ length nodes.now) × (len ≤ length out.old) }
     ensures { out.new ≡ over len (reverse (take len nodes.now)) out.old }
 {
-    let mut i = 0;
-    while i < len {
-        out[i] = nodes[len - 1 - i];
-        i += 1;
-    }
+    out[..len].copy_from_slice(&nodes[..len]);
+    out[..len].reverse();
 }
 
 /// Writes the least `init_k` of the other nodes, farthest first, to the front of `out`, by the distances of `q` in `row`, and returns
@@ -232,9 +202,7 @@ pub fn list_of(
 /// Writes the exact list of `q`, the least `init_k` of the other nodes, farthest first, to the front of `out`, and returns how many
 /// there are (hora's `build_knn_graph`, one turn). It works in `row` (n places), `nodes` and `dists` (`init_k` places each).
 pub fn exact_list(
-    lanes: &[f32],
-    dimension: usize,
-    n: usize,
+    counters: Counters<'_>,
     q: NodeId,
     init_k: usize,
     row: &mut [f32],
@@ -242,10 +210,10 @@ pub fn exact_list(
     dists: &mut [f32],
     out: &mut [u32],
 ) -> usize
-    requires lanes_len { (length lanes.now ≡ n * dimension) × (n ≤ 4096) × (q.0 < n) × (n ≤ length row.old) }
+    requires within { (q.0 < counters.n) × (counters.n ≤ length row.old) × (counters.n ≤ 4096) }
     requires le_init_k { (1 ≤ init_k) × (init_k ≤ length nodes.old) × (init_k ≤ length dists.old) × (init_k ≤ length out.old) }
-    ensures { Exact (between lanes.now dimension) n init_k q.0 row.old nodes.old dists.old out.old row.new nodes.new dists.new out.new result }
+    ensures { Exact (between counters.entry) counters.entry.n init_k q.0 row.old nodes.old dists.old out.old row.new nodes.new dists.new out.new result }
 {
-    distances_from(lanes, dimension, n, q, row);
-    list_of(row, 1, 0, n, q, init_k, nodes, dists, out)
+    distances_from(counters, q, row);
+    list_of(row, 1, 0, counters.n, q, init_k, nodes, dists, out)
 }

@@ -7,7 +7,8 @@ use native.Mathlib.Omega.{arith}
 use lib.ListN.{length, take, drop, get_or, length-take, length-append}
 use lib.Seq.{length-take-le, get_or-take, get_or-drop}
 use lib.Ieee.{Float, nan}
-use Rattle.rules.specs.declared.Distance.{Distance}
+use Rattle.std.specs.Prelude.{Ok, Err}
+use Rattle.rules.specs.Answers.{Distance}
 use Rattle.rules.specs.declared.NodeId.{NodeId}
 use Rattle.rules.specs.declared.Neighbor.{Neighbor}
 use Rattle.rules.specs.Loops.{part}
@@ -17,8 +18,7 @@ use Rattle.rules.specs.Search.{Walk, Going, on, unfit_at, Found, Taken, and_then
 use Rattle.neighbor.specs.Holdable.{Holdable}
 use Rattle.lists.specs.All.{All}
 use Rattle.lists.proofs.Slices.{length-entries}
-use Rattle.expand.specs.declared.Counted.{Counted}
-use Rattle.expand.specs.declared.Counted.TheVariants as counted
+use Rattle.expand.specs.Steps.{Counted}
 use Rattle.buffers.specs.Area.{area}
 use Rattle.expand.specs.Areas.{best_at, found_at, seen_in, queue_in, best_in, found_in, Room, BestSound, QueueKept}
 use Rattle.expand.specs.Steps.{found, found_after, Visited, taken, TakenIn}
@@ -106,21 +106,21 @@ unfolding entries
 related_none far n us fs w = record { beyond = []; seen = refl; whole = refl; near = tt; out = tt }
 
 module _ {far : Float} {apart : ℕ → Distance} {n : ℕ} (row : List ℕ) {us us₁ : List ℕ} {fs fs₁ : List Float} (held : Holdable far) (fine : Answers apart) (w : ℕ) where
-  pub full : {len : ℕ} → Visited far apart n (live_nodes n row) 0 64 us fs us₁ fs₁ (counted.Count len) → Full far apart (live_nodes n row) (begun n us w) (found n us₁ fs₁ len)
+  pub full : {len : ℕ} → Visited far apart n (live_nodes n row) 0 64 us fs us₁ fs₁ (Ok len) → Full far apart (live_nodes n row) (begun n us w) (found n us₁ fs₁ len)
   unfolding found_after
   full {len} v =
       let r = related_on far (visits apart (live_nodes n row) (begun n us w)) (found n us₁ fs₁ len)
       (subst (RelatedGoing far (visits apart (live_nodes n row) (begun n us w))) (sym v.found) (related_visits far held apart fine (live_nodes n row) (begun n us w) (found n us fs 0) (related_none far n us fs w))) in
       record { f = r.0; is = r.1; related = r.2 }
 
-  pub full_unfit : {u : NodeId} → Visited far apart n (live_nodes n row) 0 64 us fs us₁ fs₁ (counted.Unfit u) → visits apart (live_nodes n row) (begun n us w) ≡ unfit_at u.0
+  pub full_unfit : {u : NodeId} → Visited far apart n (live_nodes n row) 0 64 us fs us₁ fs₁ (Err u) → visits apart (live_nodes n row) (begun n us w) ≡ unfit_at u.0
   unfolding found_after
   full_unfit {u} v =
       related_unfit far (visits apart (live_nodes n row) (begun n us w)) u.0
       (subst (RelatedGoing far (visits apart (live_nodes n row) (begun n us w))) (sym v.found) (related_visits far held apart fine (live_nodes n row) (begun n us w) (found n us fs 0) (related_none far n us fs w)))
 
 module _ {far : Float} {apart : ℕ → Distance} {n tail len : ℕ} {us us₁ : List ℕ} {fs fs₁ : List Float} (held : Holdable far) (fine : Answers apart) where
-  pub found-sound : (row : List ℕ) → Room n us fs → tail ≤ ones (seen_in n us) → Visited far apart n (live_nodes n row) 0 64 us fs us₁ fs₁ (counted.Count len) → FoundSound n tail len us₁ fs₁
+  pub found-sound : (row : List ℕ) → Room n us fs → tail ≤ ones (seen_in n us) → Visited far apart n (live_nodes n row) 0 64 us fs us₁ fs₁ (Ok len) → FoundSound n tail len us₁ fs₁
   unfolding Whenever nodes_of entries AllBelow Rattle.expand.specs.Steps.at_most
   found-sound row room few v =
       let whole = full row held fine 0 v in
@@ -189,11 +189,11 @@ module _ (apart : ℕ → Distance) (n : ℕ) (graph : List ℕ) (w m takings ta
       (ap (graph_row n w graph) nx.queued ∙ ap (live_nodes n) (sym e))
       refl
 
-  pub expanded_unfit : {far : Float} {us₁ : List ℕ} {fs₁ : List Float} {v : NodeId} {row : List ℕ} {r : Counted} → Holdable far → row ≡ part w (get_or us (n + takings) 0) graph → r ≡ counted.Unfit v
+  pub expanded_unfit : {far : Float} {us₁ : List ℕ} {fs₁ : List Float} {v : NodeId} {row : List ℕ} {r : Counted} → Holdable far → row ≡ part w (get_or us (n + takings) 0) graph → r ≡ Err v
       → Visited far apart n (live_nodes n row) 0 64 us fs us₁ fs₁ r → Expanded apart n graph w m takings tail us fs us₁ fs₁ r
   unfolding walk_after SoundAfter BestAfter and_then
   expanded_unfit {far} {us₁} {fs₁} {v} {row} {r} held e f p =
-      let q : Visited far apart n (live_nodes n row) 0 64 us fs us₁ fs₁ (counted.Unfit v) = rw f at p in
+      let q : Visited far apart n (live_nodes n row) 0 64 us fs us₁ fs₁ (Err v) = rw f at p in
       rw f
       (record {
         after =
@@ -217,8 +217,8 @@ module _ (apart : ℕ → Distance) (n : ℕ) (graph : List ℕ) (w m takings ta
 
   pub expanded : {far : Float} {us₁ us₂ : List ℕ} {fs₁ fs₂ : List Float} {row : List ℕ} {len end : ℕ} → Best n us fs m far → Room n us fs → QueueSound n us tail
       → row ≡ part w (get_or us (n + takings) 0) graph
-      → Visited far apart n (live_nodes n row) 0 64 us fs us₁ fs₁ (counted.Count len) → TakenIn n m len tail us₁ fs₁ us₂ fs₂ end
-      → Expanded apart n graph w m takings tail us fs us₂ fs₂ (counted.Count end)
+      → Visited far apart n (live_nodes n row) 0 64 us fs us₁ fs₁ (Ok len) → TakenIn n m len tail us₁ fs₁ us₂ fs₂ end
+      → Expanded apart n graph w m takings tail us fs us₂ fs₂ (Ok end)
   unfolding walk_after SoundAfter BestAfter and_then row_ended
   expanded {far} {us₁} {us₂} {fs₁} {fs₂} {row} {len} {end} best room sound e v t =
       let fine_found = found-sound best.held fine row room sound.few v in

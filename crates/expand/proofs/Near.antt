@@ -7,8 +7,8 @@ use native.Mathlib.Omega.{arith}
 use borrow.Author.Tests.{lt-ltb, le-ltb, ltb-true, ltb-false, ne_eqb}
 use lib.ListN.{length, take, get_or}
 use lib.Ieee.{Float, binary32, to_bits, lt}
-use Rattle.rules.specs.declared.Distance.{Distance}
-use Rattle.rules.specs.declared.Distance.TheVariants.{Fit, Unfit}
+use Rattle.std.specs.Prelude.{Some, None}
+use Rattle.rules.specs.Answers.{Distance}
 use Rattle.rules.specs.declared.Neighbor.{Neighbor}
 use Rattle.rules.specs.Distance.{before, zero32, lanes_of, query_apart}
 use Rattle.rules.specs.Lists.{neighbor, insert}
@@ -120,7 +120,7 @@ related_unfit far (unfit_at u) v r = ap unfit_at r
 
 -- an answer that a distance can give
 abbrev pub Answers : (ℕ → Distance) → Type 0
-Answers apart = (v : ℕ) (x : Float) → apart v ≡ Fit x → Holdable x
+Answers apart = (v : ℕ) (x : Float) → apart v ≡ Some x → Holdable x
 
 pub query-answers : (lanes : List Float) (dimension : ℕ) (query : List Float) → Answers (query_apart lanes dimension query)
 unfolding query_apart
@@ -158,8 +158,8 @@ module _ (far : Float) (held : Holdable far) (apart : ℕ → Distance) (fine : 
           → RelatedGoing far (cond b (on f) (and_then (works_out apart v f.entries d) (λ (es : List Neighbor). on (record { seen = mark v f.seen; entries = es; worked = suc f.worked }))))
           (cond b (on g) (and_then (works_near far v g.entries d) (λ (es : List Neighbor). on (record { seen = mark v g.seen; entries = es; worked = 0 }))))
       go true d e = r
-      go false (Fit x) e = related_more v x (lt far x) f g refl (fine v x e) r
-      go false Unfit e = refl
+      go false (Some x) e = related_more v x (lt far x) f g refl (fine v x e) r
+      go false None e = refl
 
   pub related_visits : (vs : List ℕ) (f g : Found) → Related far f g → RelatedGoing far (visits apart vs f) (visits_near far apart vs g)
   unfolding visits visits_near and_then RelatedGoing

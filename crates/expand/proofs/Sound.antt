@@ -8,8 +8,8 @@ use native.Mathlib.Omega.{arith}
 use borrow.Author.Tests.{ltb-true}
 use lib.Dec.{eqb, ltb}
 use lib.ListN.{length, get_or, length-set, length-append}
-use Rattle.rules.specs.declared.Distance.{Distance}
-use Rattle.rules.specs.declared.Distance.TheVariants.{Fit, Unfit}
+use Rattle.std.specs.Prelude.{Some, None}
+use Rattle.rules.specs.Answers.{Distance}
 use Rattle.rules.specs.declared.Neighbor.{Neighbor}
 use Rattle.rules.specs.Distance.{before}
 use Rattle.rules.specs.Lists.{neighbor, node_of, nodes_of, insert}
@@ -94,19 +94,19 @@ Pushed n v es fs = (length fs ≡ suc (length es)) × (AllBelow n (nodes_of es) 
 
 pushes : (apart : ℕ → Distance) (n v : ℕ) (es : List Neighbor) (d : Distance) → v < n → Whenever (Pushed n v es) (works_out apart v es d)
 unfolding Whenever works_out
-pushes apart n v es (Fit x) h = (length-insert (neighbor v x) es, below-insert n (neighbor v x) es h)
-pushes apart n v es Unfit h = tt
+pushes apart n v es (Some x) h = (length-insert (neighbor v x) es, below-insert n (neighbor v x) es h)
+pushes apart n v es None h = tt
 
 pub pushes_both : (apart : ℕ → Distance) (n v : ℕ) (es : List Neighbor) (d : Distance) → v < n → AllBelow n (nodes_of es)
     → Whenever (λ (fs : List Neighbor). AllBelow n (nodes_of fs) × (length fs ≡ suc (length es))) (works_out apart v es d)
 unfolding Whenever works_out
-pushes_both apart n v es (Fit x) h b = (below-insert n (neighbor v x) es h b, length-insert (neighbor v x) es)
-pushes_both apart n v es Unfit h b = tt
+pushes_both apart n v es (Some x) h b = (below-insert n (neighbor v x) es h b, length-insert (neighbor v x) es)
+pushes_both apart n v es None h b = tt
 
 pub pushes_below : (apart : ℕ → Distance) (n v : ℕ) (es : List Neighbor) (d : Distance) → v < n → AllBelow n (nodes_of es) → Whenever (λ (fs : List Neighbor). AllBelow n (nodes_of fs)) (works_out apart v es d)
 unfolding Whenever works_out
-pushes_below apart n v es (Fit x) h b = below-insert n (neighbor v x) es h b
-pushes_below apart n v es Unfit h b = tt
+pushes_below apart n v es (Some x) h b = below-insert n (neighbor v x) es h b
+pushes_below apart n v es None h b = tt
 
 grown_visit : (apart : ℕ → Distance) (n v : ℕ) (f₀ f : Found) → v < n → Grown n f₀ f → Whenever (Grown n f₀) (visit apart v f)
 unfolding visit Whenever

@@ -10,8 +10,8 @@ use lib.Dec.{eqb}
 use lib.ListN.{length, take, drop, get_or, set, drop_of_length-le}
 use lib.Seq.{get_or-take, get_or-drop, drop-cons, take-set-lt}
 use lib.Ieee.{Float, nan, lt}
-use Rattle.rules.specs.declared.Distance.{Distance}
-use Rattle.rules.specs.declared.Distance.TheVariants.{Fit, Unfit}
+use Rattle.std.specs.Prelude.{Ok, Err, Some, None}
+use Rattle.rules.specs.Answers.{Distance}
 use Rattle.rules.specs.declared.NodeId.{NodeId}
 use Rattle.rules.specs.declared.Neighbor.{Neighbor}
 use Rattle.rules.specs.Distance.{zero32}
@@ -19,8 +19,7 @@ use Rattle.rules.specs.Lists.{neighbor, node_of, entries, insert}
 use Rattle.rules.specs.Rows.{live_nodes}
 use Rattle.rules.specs.Search.{Going, on, unfit_at, Found, and_then, mark, is_seen, farthest, joins, take_these}
 use Rattle.lists.proofs.Slices.{length-entries, get_d_entries, drop-entries}
-use Rattle.expand.specs.declared.Counted.{Counted}
-use Rattle.expand.specs.declared.Counted.TheVariants as counted
+use Rattle.expand.specs.Steps.{Counted}
 use Rattle.buffers.specs.Area.{area}
 use Rattle.expand.specs.Areas.{best_at, found_at, seen_in, queue_in, best_in, found_in, Room, QueueKept, FoundKept}
 use Rattle.expand.specs.Steps.{works_near, visit_near, visits_near, found, found_after, entries_after, at_most, WorkedOut, Visited, taken, Joined, TakenIn}
@@ -30,8 +29,8 @@ use Rattle.expand.proofs.Areas.{FoundPushed, BestPushed, seen-marked, queue_grow
 -- ---- a distance is worked out
 
 module _ (far : Float) (apart : ℕ → Distance) (n len : ℕ) (v : NodeId) (us : List ℕ) (fs : List Float) where
-  pub worked_fit : {x : Float} {us' : List ℕ} {fs' : List Float} {r : ℕ} → apart v.0 ≡ Fit x → lt far x ≡ false
-      → FoundPushed n us fs len (neighbor v.0 x) us' fs' r → WorkedOut far apart n v.0 len us fs us' fs' (counted.Count r)
+  pub worked_fit : {x : Float} {us' : List ℕ} {fs' : List Float} {r : ℕ} → apart v.0 ≡ Some x → lt far x ≡ false
+      → FoundPushed n us fs len (neighbor v.0 x) us' fs' r → WorkedOut far apart n v.0 len us fs us' fs' (Ok r)
   unfolding entries_after works_near at_most
   worked_fit {x} e near p =
       let count = p.count in
@@ -45,7 +44,7 @@ module _ (far : Float) (apart : ℕ → Distance) (n len : ℕ) (v : NodeId) (us
         few = omega arith;
       }
 
-  pub worked_far : {x : Float} → apart v.0 ≡ Fit x → lt far x ≡ true → WorkedOut far apart n v.0 len us fs us fs (counted.Count len)
+  pub worked_far : {x : Float} → apart v.0 ≡ Some x → lt far x ≡ true → WorkedOut far apart n v.0 len us fs us fs (Ok len)
   unfolding entries_after works_near at_most
   worked_far {x} e beyond =
       record {
@@ -57,7 +56,7 @@ module _ (far : Float) (apart : ℕ → Distance) (n len : ℕ) (v : NodeId) (us
         few = omega arith;
       }
 
-  pub worked-unfit : apart v.0 ≡ Unfit → WorkedOut far apart n v.0 len us fs us fs (counted.Unfit v)
+  pub worked-unfit : apart v.0 ≡ None → WorkedOut far apart n v.0 len us fs us fs (Err v)
   unfolding entries_after works_near at_most
   worked-unfit e =
       record { entries = ap (works_near far v.0 (found_in n us fs len)) (sym e); seen = refl; kept = queue-kept; few = tt }
@@ -89,11 +88,11 @@ visit_unseen far apart v f e = rw e (go (works_near far v f.entries (apart v)))
 found_of : (n len v : ℕ) (us us' : List ℕ) (fs fs' : List Float) (r : Counted) → seen_in n us' ≡ mark v (seen_in n us)
     → found_after n us' fs' r ≡ and_then (entries_after n us' fs' r) (λ (es : List Neighbor). on (marking v (found n us fs len) es))
 unfolding found_after entries_after and_then
-found_of n len v us us' fs fs' (counted.Count l) s = ap (λ (seen : List ℕ). on (record { seen = seen; entries = found_in n us' fs' l; worked = 0 })) s
-found_of n len v us us' fs fs' (counted.Unfit u) s = refl
+found_of n len v us us' fs fs' (Ok l) s = ap (λ (seen : List ℕ). on (record { seen = seen; entries = found_in n us' fs' l; worked = 0 })) s
+found_of n len v us us' fs fs' (Err u) s = refl
 
 module _ (far : Float) (apart : ℕ → Distance) (n len v : ℕ) (us : List ℕ) (fs : List Float) (below : v < n) where
-  pub visited-before : get_or us v 0 ≡ 1 → Visited far apart n (v ∷ []) len 1 us fs us fs (counted.Count len)
+  pub visited-before : get_or us v 0 ≡ 1 → Visited far apart n (v ∷ []) len 1 us fs us fs (Ok len)
   unfolding found_after visits_near visit_near and_then at_most
   visited-before e =
       record {
@@ -150,7 +149,7 @@ visiting_none far apart n row us fs = record { left = refl; kept = queue-kept; f
 
 module _ {far : Float} {apart : ℕ → Distance} {n : ℕ} {row us₀ : List ℕ} {fs₀ : List Float} {us : List ℕ} {fs : List Float} {len j : ℕ} (inv : Visiting far apart n row us₀ fs₀ us fs len j) where
   -- no member is left
-  ends : live_nodes n (drop j row) ≡ [] → j ≤ 64 → Visited far apart n (live_nodes n row) 0 64 us₀ fs₀ us fs (counted.Count len)
+  ends : live_nodes n (drop j row) ≡ [] → j ≤ 64 → Visited far apart n (live_nodes n row) 0 64 us₀ fs₀ us fs (Ok len)
   unfolding found_after visits_near at_most
   ends e h =
       let few = inv.few in
@@ -160,11 +159,11 @@ module _ {far : Float} {apart : ℕ → Distance} {n : ℕ} {row us₀ : List �
         few = omega arith;
       }
 
-  pub visiting_end : length row ≤ j → length row ≤ 64 → Visited far apart n (live_nodes n row) 0 64 us₀ fs₀ us fs (counted.Count len)
+  pub visiting_end : length row ≤ j → length row ≤ 64 → Visited far apart n (live_nodes n row) 0 64 us₀ fs₀ us fs (Ok len)
   unfolding live_nodes
   visiting_end h k = let at = inv.at in ends (ap (live_nodes n) (drop_of_length-le row {i = j} h)) (omega arith)
 
-  pub visiting_stop : j < length row → length row ≤ 64 → n ≤ get_or row j 0 → Visited far apart n (live_nodes n row) 0 64 us₀ fs₀ us fs (counted.Count len)
+  pub visiting_stop : j < length row → length row ≤ 64 → n ≤ get_or row j 0 → Visited far apart n (live_nodes n row) 0 64 us₀ fs₀ us fs (Ok len)
   visiting_stop h k over = ends (ap (live_nodes n) (drop-cons row j 0 h) ∙ live-stops n (get_or row j 0) (drop (suc j) row) over) (omega arith)
 
   -- the next member, and the rest of the row behind it
@@ -177,11 +176,11 @@ module _ {far : Float} {apart : ℕ → Distance} {n : ℕ} {row us₀ : List �
       ∙ ap (λ (i : ℕ). get_or row j 0 ∷ live_nodes n (drop i row)) (sym (add-one j)))
       ∙ visits-append far apart (get_or row j 0 ∷ []) (live_nodes n (drop (j + 1) row)) (found n us fs len)
 
-  pub visiting_more : {us' : List ℕ} {fs' : List Float} {r : Counted} {more : ℕ} → j < length row → get_or row j 0 < n → r ≡ counted.Count more
+  pub visiting_more : {us' : List ℕ} {fs' : List Float} {r : Counted} {more : ℕ} → j < length row → get_or row j 0 < n → r ≡ Ok more
       → Visited far apart n (get_or row j 0 ∷ []) len 1 us fs us' fs' r → Visiting far apart n row us₀ fs₀ us' fs' more (j + 1)
   unfolding found_after and_then at_most
   visiting_more {us'} {fs'} {r} {more} h below e w =
-      let v : Visited far apart n (get_or row j 0 ∷ []) len 1 us fs us' fs' (counted.Count more) = rw e at w in
+      let v : Visited far apart n (get_or row j 0 ∷ []) len 1 us fs us' fs' (Ok more) = rw e at w in
       let few = inv.few in
       let now = v.few in
       record {
@@ -194,11 +193,11 @@ module _ {far : Float} {apart : ℕ → Distance} {n : ℕ} {row us₀ : List �
         at = omega arith;
       }
 
-  pub visiting_unfit : {us' : List ℕ} {fs' : List Float} {r : Counted} {u : NodeId} → j < length row → get_or row j 0 < n → r ≡ counted.Unfit u
+  pub visiting_unfit : {us' : List ℕ} {fs' : List Float} {r : Counted} {u : NodeId} → j < length row → get_or row j 0 < n → r ≡ Err u
       → Visited far apart n (get_or row j 0 ∷ []) len 1 us fs us' fs' r → Visited far apart n (live_nodes n row) 0 64 us₀ fs₀ us' fs' r
   unfolding found_after and_then at_most
   visiting_unfit {us'} {fs'} {r} {u} h below e w =
-      let v : Visited far apart n (get_or row j 0 ∷ []) len 1 us fs us' fs' (counted.Unfit u) = rw e at w in
+      let v : Visited far apart n (get_or row j 0 ∷ []) len 1 us fs us' fs' (Err u) = rw e at w in
       rw e
       (record {
         found =

@@ -1,10 +1,9 @@
 -- The queue of a walk: every node that joined it was seen just before, so that it has room for all. Assumes nothing.
-use Rattle.std.specs.Prelude.{◌≡◌, cond, List, [], ◌∷◌, ℕ, ◌+◌, ◌*◌, ◌≤◌, ◌<◌, eqb, take, length, Float}
-use Rattle.rules.specs.declared.Distance.{Distance}
+use Rattle.std.specs.Prelude.{Ok, Err, ◌≡◌, cond, List, [], ◌∷◌, ℕ, ◌+◌, ◌*◌, ◌≤◌, ◌<◌, eqb, take, length, Float}
+use Rattle.rules.specs.Answers.{Distance}
 use Rattle.rules.specs.Rows.{graph_row}
 use Rattle.rules.specs.Search.{Walk, Going, on, unfit_at, expand}
-use Rattle.expand.specs.declared.Counted.{Counted}
-use Rattle.expand.specs.declared.Counted.TheVariants.{Count, Unfit}
+use Rattle.expand.specs.Steps.{Counted}
 use Rattle.expand.specs.Areas.{seen_in, queue_in, best_in, BestSound}
 
 -- flags that are set
@@ -29,16 +28,16 @@ walk_in n us fs m tail takings worked =
     record { seen = seen_in n us; best = best_in n us fs m; queue = take tail (queue_in n us); takings = takings; worked = worked }
 
 unfoldable pub walk_after : ℕ → List ℕ → List Float → ℕ → ℕ → ℕ → Counted → Going Walk
-walk_after n us fs m takings worked (Count tail) = on (walk_in n us fs m tail takings worked)
-walk_after n us fs m takings worked (Unfit v) = unfit_at v.0
+walk_after n us fs m takings worked (Ok tail) = on (walk_in n us fs m tail takings worked)
+walk_after n us fs m takings worked (Err v) = unfit_at v.0
 
 unfoldable pub SoundAfter : ℕ → List ℕ → Counted → Type 0
-SoundAfter n us (Count tail) = QueueSound n us tail
-SoundAfter n us (Unfit v) = Unit
+SoundAfter n us (Ok tail) = QueueSound n us tail
+SoundAfter n us (Err v) = Unit
 
 unfoldable pub BestAfter : ℕ → List ℕ → List Float → ℕ → Counted → Type 0
-BestAfter n us fs m (Count tail) = BestSound n us fs m
-BestAfter n us fs m (Unfit v) = Unit
+BestAfter n us fs m (Ok tail) = BestSound n us fs m
+BestAfter n us fs m (Err v) = Unit
 
 -- a graph of n rows
 pub record Rows (n : ℕ) (graph : List ℕ) (index_size : ℕ) : Type 0 where

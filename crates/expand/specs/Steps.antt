@@ -1,25 +1,21 @@
 -- What each step of the walk leaves in scratch. Assumes nothing.
-use Rattle.std.specs.Prelude.{◌≡◌, cond, List, [], ◌∷◌, ℕ, ◌+◌, ◌*◌, ◌≤◌, take, length, Float}
+use Rattle.std.specs.Prelude.{Result, Ok, Err, Some, None, ◌≡◌, cond, List, [], ◌∷◌, ℕ, ◌+◌, ◌≤◌, take, Float}
 use Rattle.std.specs.Float.Ieee.{lt}
-use Rattle.rules.specs.declared.Distance.{Distance}
-use Rattle.rules.specs.declared.Distance.TheVariants as distance
+use Rattle.rules.specs.Answers.{Distance}
+use Rattle.rules.specs.declared.NodeId.{NodeId}
 use Rattle.rules.specs.declared.Neighbor.{Neighbor}
 use Rattle.rules.specs.Lists.{neighbor, insert}
 use Rattle.rules.specs.Search.{Going, on, unfit_at, and_then, Found, Taken, mark, is_seen, joins, take_these}
-use Rattle.expand.specs.declared.Counted.{Counted}
-use Rattle.expand.specs.declared.Counted.TheVariants.{Count, Unfit}
 use Rattle.expand.specs.Areas.{seen_in, queue_in, best_in, found_in, QueueKept, FoundKept}
 
--- what every step may count on: lanes of n nodes, and a query of as many lanes
-pub record Lanes (lanes : List Float) (dimension n : ℕ) (query : List Float) : Type 0 where
-  pub lanes_long : length lanes ≡ n * dimension
-  pub query_long : length query ≡ dimension
-  pub few : n ≤ 4096
+-- how many, or the node whose distance is unfit
+abbrev pub Counted : Type 0
+Counted = Result ℕ NodeId
 
 -- the rules `works_out`, `visit` and `visits`, where entries beyond `far` are passed over and nothing is counted
 unfoldable pub works_near : Float → ℕ → List Neighbor → Distance → Going (List Neighbor)
-works_near far v found (distance.Fit x) = on (cond (lt far x) found (insert (neighbor v x) found))
-works_near far v found distance.Unfit = unfit_at v
+works_near far v found (Some x) = on (cond (lt far x) found (insert (neighbor v x) found))
+works_near far v found None = unfit_at v
 
 unfoldable pub visit_near : Float → (ℕ → Distance) → ℕ → Found → Going Found
 visit_near far apart v f =
@@ -36,17 +32,17 @@ abbrev pub found : ℕ → List ℕ → List Float → ℕ → Found
 found n us fs len = record { seen = seen_in n us; entries = found_in n us fs len; worked = 0 }
 
 unfoldable pub found_after : ℕ → List ℕ → List Float → Counted → Going Found
-found_after n us fs (Count len) = on (found n us fs len)
-found_after n us fs (Unfit v) = unfit_at v.0
+found_after n us fs (Ok len) = on (found n us fs len)
+found_after n us fs (Err v) = unfit_at v.0
 
 -- the entries alone
 unfoldable pub entries_after : ℕ → List ℕ → List Float → Counted → Going (List Neighbor)
-entries_after n us fs (Count len) = on (found_in n us fs len)
-entries_after n us fs (Unfit v) = unfit_at v.0
+entries_after n us fs (Ok len) = on (found_in n us fs len)
+entries_after n us fs (Err v) = unfit_at v.0
 
 unfoldable pub at_most : ℕ → Counted → Type 0
-at_most high (Count len) = len ≤ high
-at_most high (Unfit v) = Unit
+at_most high (Ok len) = len ≤ high
+at_most high (Err v) = Unit
 
 pub record WorkedOut (far : Float) (apart : ℕ → Distance) (n v len : ℕ) (us : List ℕ) (fs : List Float) (us' : List ℕ) (fs' : List Float) (r : Counted) : Type 0 where
   pub entries : entries_after n us' fs' r ≡ works_near far v (found_in n us fs len) (apart v)

@@ -2,43 +2,35 @@
 #![tactic(auto)]
 
 ghost use Rattle.std.specs.Prelude.{[], ◌∷◌, ◌+◌, ◌≤◌, ◌<◌, length};
-ghost use Rattle.rules.specs.Distance.{query_apart};
+ghost use Rattle.metrics.specs.Counters.{asked_apart};
 ghost use Rattle.rules.specs.Rows.{live_nodes};
 ghost use Rattle.expand.specs.Areas.{Room, BestSound};
-ghost use Rattle.expand.specs.Steps.{Lanes, WorkedOut, Visited, Joined, TakenIn};
+ghost use Rattle.expand.specs.Steps.{WorkedOut, Visited, Joined, TakenIn};
 ghost use Rattle.expand.specs.Queue.{Rows, QueueSound, Expanded};
 
-use rules::{Distance, Neighbor, NodeId};
-
-/// How many, or the node whose distance is unfit.
-#[derive(Clone, Copy)]
-pub enum Counted {
-    Count(usize),
-    Unfit(NodeId),
-}
+use metrics::Asked;
+use rules::{Neighbor, NodeId};
 
 /// Works the distance of node `v` to the query out, and puts it in order among the `len` entries found unless it is beyond `far`.
 pub fn work_out(
-    lanes: &[f32],
-    dimension: usize,
-    n: usize,
-    query: &[f32],
+    asked: Asked<'_, '_>,
     words: &mut [u32],
     floats: &mut [f32],
     len: usize,
     far: f32,
     v: NodeId,
-) -> Counted
-    requires lanes { Lanes lanes.now dimension n query.now }
-    requires room { Room n words.old floats.old }
-    requires v_lt_n { (v.0 < n) × (len < 64) }
-    ensures { WorkedOut far (query_apart lanes.now dimension query.now) n v.0 len words.old floats.old words.new floats.new result }
+) -> Result<usize, NodeId>
+    requires few { asked.counters.n ≤ 4096 }
+    requires room { Room asked.counters.n words.old floats.old }
+    requires v_lt_n { (v.0 < asked.counters.n) × (len < 64) }
+    ensures { WorkedOut far (asked_apart asked.entry) asked.entry.counters.n v.0 len words.old floats.old words.new floats.new result }
 {
-    let d = metrics::query_distance(lanes, dimension, query, v);
+    let n = asked.counters.n;
+    let d = asked.distance(v);
     match d {
-        Distance::Fit(x) => {
+        Some(x) => {
             if far < x {
-                return Counted::Count(len);
+                return Ok(len);
             }
             let e = Neighbor {
                 node: v,
@@ -47,78 +39,56 @@ pub fn work_out(
             let from = n + n + 64;
             let to = from + 64;
             let more = lists::push(&mut words[from..to], &mut floats[from..to], len, e);
-            Counted::Count(more)
+            Ok(more)
         }
-        Distance::Unfit => Counted::Unfit(v),
+        None => Err(v),
     }
 }
 
 /// Works node `v` out and marks it seen, unless it is seen.
 fn visit(
-    lanes: &[f32],
-    dimension: usize,
-    n: usize,
-    query: &[f32],
+    asked: Asked<'_, '_>,
     words: &mut [u32],
     floats: &mut [f32],
     len: usize,
     far: f32,
     v: NodeId,
-) -> Counted
-    requires lanes { Lanes lanes.now dimension n query.now }
-    requires room { Room n words.old floats.old }
-    requires v_lt_n { (v.0 < n) × (len < 64) }
-    ensures { Visited far (query_apart lanes.now dimension query.now) n (v.0 ∷ []) len 1 words.old floats.old words.new floats.new result }
+) -> Result<usize, NodeId>
+    requires few { asked.counters.n ≤ 4096 }
+    requires room { Room asked.counters.n words.old floats.old }
+    requires v_lt_n { (v.0 < asked.counters.n) × (len < 64) }
+    ensures { Visited far (asked_apart asked.entry) asked.entry.counters.n (v.0 ∷ []) len 1 words.old floats.old words.new floats.new result }
 {
     let at = v.0 as usize;
     if words[at] == 1 {
-        return Counted::Count(len);
+        return Ok(len);
     }
     words[at] = 1;
-    work_out(lanes, dimension, n, query, words, floats, len, far, v)
+    work_out(asked, words, floats, len, far, v)
 }
 
 /// Visits the members of a row, up to its first value of n or more; those beyond `far` are seen and passed over.
 fn visit_row(
-    lanes: &[f32],
-    dimension: usize,
-    n: usize,
-    query: &[f32],
+    asked: Asked<'_, '_>,
     row: &[u32],
     words: &mut [u32],
     floats: &mut [f32],
     far: f32,
-) -> Counted
-    requires lanes { Lanes lanes.now dimension n query.now }
-    requires room { Room n words.old floats.old }
+) -> Result<usize, NodeId>
+    requires few { asked.counters.n ≤ 4096 }
+    requires room { Room asked.counters.n words.old floats.old }
     requires row_len_bound { length row.now ≤ 64 }
-    ensures { Visited far (query_apart lanes.now dimension query.now) n (live_nodes n row.now) 0 64 words.old floats.old words.new floats.new result }
+    ensures { Visited far (asked_apart asked.entry) asked.entry.counters.n (live_nodes asked.entry.counters.n row.now) 0 64 words.old floats.old words.new floats.new result }
 {
+    let n = asked.counters.n;
     let mut len: usize = 0;
-    let mut j: usize = 0;
-    while j < row.len() {
-        let v = row[j];
+    for &v in row {
         if n <= v as usize {
-            return Counted::Count(len);
+            return Ok(len);
         }
-        let r = visit(
-            lanes,
-            dimension,
-            n,
-            query,
-            words,
-            floats,
-            len,
-            far,
-            NodeId(v),
-        );
-        let Counted::Count(more) = r else {
-            return r;
-        };
-        len = more;
-        j += 1;
+        len = visit(asked, words, floats, len, far, NodeId(v))?;
     }
-    Counted::Count(len)
+    Ok(len)
 }
 
 /// Replaces the last of the best set by `e`, in order, and puts `e` at the queue's end.
@@ -157,8 +127,7 @@ fn take_these(
     ensures { TakenIn n m len tail words.old floats.old words.new floats.new result }
 {
     let mut end = tail;
-    let mut i: usize = 0;
-    while i < len {
+    for i in 0..len {
         let at = n + n + 64 + i;
         let e = Neighbor {
             node: NodeId(words[at]),
@@ -169,7 +138,6 @@ fn take_these(
             return end;
         }
         end = join(n, words, floats, m, end, e);
-        i += 1;
     }
     end
 }
@@ -177,10 +145,7 @@ fn take_these(
 /// Takes the next node from the queue, of which `takings` have been taken, and expands it; counts the queue's new length.
 /// What is beyond the farthest best is beyond it later too, and would end the row: it is never sorted.
 pub fn expand(
-    lanes: &[f32],
-    dimension: usize,
-    n: usize,
-    query: &[f32],
+    asked: Asked<'_, '_>,
     graph: &[u32],
     index_size: usize,
     words: &mut [u32],
@@ -188,34 +153,23 @@ pub fn expand(
     m: usize,
     takings: usize,
     tail: usize,
-) -> Counted
-    requires lanes { Lanes lanes.now dimension n query.now }
-    requires rows { Rows n graph.now index_size }
-    requires room { Room n words.old floats.old }
-    requires queue_sound { QueueSound n words.old tail }
-    requires best_sound { BestSound n words.old floats.old m }
+) -> Result<usize, NodeId>
+    requires few { asked.counters.n ≤ 4096 }
+    requires rows { Rows asked.counters.n graph.now index_size }
+    requires room { Room asked.counters.n words.old floats.old }
+    requires queue_sound { QueueSound asked.counters.n words.old tail }
+    requires best_sound { BestSound asked.counters.n words.old floats.old m }
     requires le_m { (1 ≤ m) × (m ≤ 64) × (takings < tail) }
-    ensures { Expanded (query_apart lanes.now dimension query.now) n graph.now index_size m takings tail words.old floats.old words.new floats.new result }
+    ensures { Expanded (asked_apart asked.entry) asked.entry.counters.n graph.now index_size m takings tail words.old floats.old words.new floats.new result }
 {
+    let n = asked.counters.n;
     let at = n + takings;
     let q = words[at] as usize;
     let from = q * index_size;
     let to = from + index_size;
     let last = n + n + m - 1;
     let far = floats[last];
-    let r = visit_row(
-        lanes,
-        dimension,
-        n,
-        query,
-        &graph[from..to],
-        words,
-        floats,
-        far,
-    );
-    let Counted::Count(len) = r else {
-        return r;
-    };
+    let len = visit_row(asked, &graph[from..to], words, floats, far)?;
     let end = take_these(n, words, floats, m, len, tail);
-    Counted::Count(end)
+    Ok(end)
 }

@@ -8,7 +8,7 @@ use native.Mathlib.Numerals.{add-one}
 use native.Mathlib.Omega.{arith}
 use lib.Dec.{eqb, leb}
 use lib.ListN.{length, take, drop, get_or, set, replicate, length-set, length-replicate, length-drop, get_or-replicate}
-use lib.Seq.{take-suc, length-take-le, get_or-take, get_or-drop, get_or-set_same, get_or-set_other, take-suc-set, drop-set-lt, ext_get_or}
+use lib.Seq.{take-suc, length-take-le, get_or-set_same, get_or-set_other, take-suc-set, drop-set-lt, ext_get_or}
 use borrow.Author.Tests.{eqb-true, eqb-false, eq-eqb, ne_eqb, le-leb, lt-leb}
 use Rattle.rules.specs.Loops.{through, has}
 use Rattle.rules.specs.Search.{mark, is_seen}
@@ -258,14 +258,9 @@ module _ {lists : List ℕ} {init_k count n : ℕ} (linked : Linked lists init_k
       let fewer = linked.fewer in
       length-take-le count (drop (v * init_k) lists) (simp length-drop (omega arith))
 
-  pub get_d_list : (i z : ℕ) → i < count → get_or (list_of lists init_k count v) i z ≡ get_or lists (v * init_k + i) z
-  unfolding list_of
-  get_d_list i z l = get_or-take count (drop (v * init_k) lists) i z l ∙ get_or-drop (v * init_k) lists i z
-
-  pub member_below : (i z : ℕ) → i < count → get_or lists (v * init_k + i) z < n
-  member_below i z l =
-      let long = length-list in
-      rw (get_d_list i z l) at (all-at (λ (x : ℕ). x < n) (list_of lists init_k count v) i z (linked.below v h) (omega arith))
+  -- each member of that list, lent as ms, is below n
+  pub member_in : {ms : List ℕ} → ms ≡ list_of lists init_k count v → (i : ℕ) → i < length ms → get_or ms i 0 < n
+  member_in {ms} e i l = all-at (λ (x : ℕ). x < n) ms i 0 (rw e (linked.below v h)) l
 
 -- ---- the members of candidates
 

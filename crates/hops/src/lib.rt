@@ -1,7 +1,7 @@
 // Step 2 of build: the two-hop candidates of a node, over the exact lists of all nodes in one slice.
 #![tactic(auto)]
 
-ghost use Rattle.std.specs.Prelude.{◌≡◌, ◌+◌, ◌≤◌, ◌<◌, length, take, replicate};
+ghost use Rattle.std.specs.Prelude.{◌≡◌, ◌+◌, ◌*◌, ◌≤◌, ◌<◌, length, take, replicate};
 ghost use Rattle.rules.specs.Loops.{through};
 ghost use Rattle.rules.specs.Build.{taking, hop, two_hops};
 ghost use Rattle.lists.specs.All.{All};
@@ -33,6 +33,16 @@ fn hop(flags: &mut [u32], out: &mut [u32], len: usize, limit: usize, q: NodeId, 
     take_node(flags, out, len, v)
 }
 
+// The list of node `v`: the lists lie `init_k` places apart, and are `count` long.
+#[tactic(auto, unfolding(crate::specs::Hops::list_of))]
+fn list_of(lists: &[u32], init_k: usize, count: usize, v: NodeId) -> &[u32]
+    requires { v.0 * init_k + count ≤ length lists.now }
+    ensures { result.now ≡ list_of lists.now init_k count v.0 }
+{
+    let from = v.0 as usize * init_k;
+    &lists[from..from + count]
+}
+
 // Walks the list of `member`, and stops as soon as `limit` are taken.
 fn member_hops(
     lists: &[u32],
@@ -49,15 +59,12 @@ fn member_hops(
     requires flagged { Flagged flags.old (take len out.old) × (len ≤ limit) × (limit ≤ length out.old) }
     ensures { Took (through (hop limit q.0) (list_of lists.now init_k count member.0) (take len out.old)) limit flags.old out.old len flags.new out.new result }
 {
-    let from = member.0 as usize * init_k;
     let mut taken = len;
-    let mut i = 0;
-    while i < count {
+    for &v in list_of(lists, init_k, count, member) {
         if limit <= taken {
             return taken;
         }
-        taken = hop(flags, out, taken, limit, q, NodeId(lists[from + i]));
-        i += 1;
+        taken = hop(flags, out, taken, limit, q, NodeId(v));
     }
     taken
 }
@@ -76,13 +83,10 @@ fn two_hops(
     requires flagged { Flagged flags.old (take 0 out.old) × (limit ≤ length out.old) }
     ensures { Took (two_hops (list_of lists.now init_k count) limit q.0) limit flags.old out.old 0 flags.new out.new result }
 {
-    let from = q.0 as usize * init_k;
     let mut taken = 0;
-    let mut i = 0;
-    while i < count {
-        let member = NodeId(lists[from + i]);
+    for &v in list_of(lists, init_k, count, q) {
+        let member = NodeId(v);
         taken = member_hops(lists, init_k, count, limit, q, member, flags, out, taken);
-        i += 1;
     }
     taken
 }
@@ -101,12 +105,9 @@ fn own_members(
     requires flagged { Flagged flags.old (take len out.old) × (len + count ≤ length out.old) }
     ensures { Took (through taking (list_of lists.now init_k count q.0) (take len out.old)) (len + count) flags.old out.old len flags.new out.new result }
 {
-    let from = q.0 as usize * init_k;
     let mut taken = len;
-    let mut i = 0;
-    while i < count {
-        taken = take_node(flags, out, taken, NodeId(lists[from + i]));
-        i += 1;
+    for &v in list_of(lists, init_k, count, q) {
+        taken = take_node(flags, out, taken, NodeId(v));
     }
     taken
 }
@@ -116,11 +117,8 @@ fn clear(flags: &mut [u32], out: &[u32], len: usize)
     requires { Flagged flags.old (take len out.now) × All (λ v. v < length flags.old) (take len out.now) × (len ≤ length out.now) }
     ensures { flags.new ≡ replicate (length flags.old) 0 }
 {
-    let mut i = 0;
-    while i < len {
-        let at = out[i] as usize;
-        flags[at] = 0;
-        i += 1;
+    for &v in &out[..len] {
+        flags[v as usize] = 0;
     }
 }
 

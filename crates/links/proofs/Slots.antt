@@ -22,7 +22,7 @@ use Rattle.rows.specs.Live.{LiveIn}
 use Rattle.rows.proofs.Laws.{entries-append, entries_from, part-entries}
 use Rattle.offers.specs.Sound.{Sound}
 use Rattle.offers.proofs.Laws.{sound-offered, sound-part, sound-put}
-use Rattle.links.specs.Links.{Room, Linked, links_of, links_all}
+use Rattle.links.specs.Links.{Linked, links_of, links_all}
 
 -- ---- a row is lent, k places from q * w on, and comes back: the entries are those with part q replaced
 
@@ -158,18 +158,6 @@ unfolding turns
 turning_none S = record { within = zero-le; linked = record { list = refl; sound = S }; nodes = refl; dists = refl; pool_nodes = refl; pool_dists = refl }
 
 module _ {n w bound : ℕ} {f : ℕ → List Neighbor → List Neighbor} {ns₀ : List ℕ} {ds₀ : List Float} {ps₀ : List ℕ} {qs₀ : List Float} {ns : List ℕ} {ds : List Float} {ps : List ℕ} {qs : List Float} {i : ℕ} (inv : Turning n w bound f ns₀ ds₀ ps₀ qs₀ ns ds ps qs i) where
-  pub turning_room : Room n w ns₀ ds₀ ps₀ qs₀ → Room n w ns ds ps qs
-  turning_room room =
-      record {
-        nodes = rw inv.nodes room.nodes;
-        dists = rw inv.dists room.dists;
-        pool_nodes = rw inv.pool_nodes room.pool_nodes;
-        pool_dists = rw inv.pool_dists room.pool_dists;
-        most = room.most;
-        wide = room.wide;
-        some = room.some;
-      }
-
   pub turning_turn : i < bound → {ns' : List ℕ} {ds' : List Float} {ps' : List ℕ} {qs' : List Float} → Linked n w (f i (entries (n * w) ns ds)) ns' ds'
       → length ns' ≡ length ns → length ds' ≡ length ds → length ps' ≡ length ps → length qs' ≡ length qs
       → Turning n w bound f ns₀ ds₀ ps₀ qs₀ ns' ds' ps' qs' (i + 1)

@@ -5,11 +5,12 @@ ghost use Rattle.std.specs.Prelude.{◌≡◌, ◌*◌, ◌≤◌, ◌<◌, leng
 ghost use Rattle.rules.specs.Loops.{has, part};
 ghost use Rattle.rules.specs.Lists.{entries, nodes_of};
 ghost use Rattle.rules.specs.Rows.{live, empty_slot};
-ghost use Rattle.rules.specs.Distance.{between};
 ghost use Rattle.rules.specs.Build.{slot_read, link_back, link};
+ghost use Rattle.metrics.specs.Counters.{between};
 ghost use Rattle.offers.specs.Sound.{Sound};
 ghost use Rattle.links.specs.Links.{Room, Linked, links_of, links_all};
 
+use metrics::Counters;
 use rules::{Neighbor, NodeId, Slot};
 
 // Whether `v` is in the live part of row `q`.
@@ -34,9 +35,7 @@ fn is_linked(
 
 // Offers `v` to the row of the entry `e` that was read in a slot, unless it is in the row's live part.
 fn link_back(
-    lanes: &[f32],
-    dimension: usize,
-    n: usize,
+    counters: Counters<'_>,
     threshold: f32,
     index_size: usize,
     nodes: &mut [u32],
@@ -46,12 +45,12 @@ fn link_back(
     v: NodeId,
     e: Neighbor,
 )
-    requires lanes_len { (length lanes.now ≡ n * dimension) × (v.0 < n) × (e.node.0 < n) × Sound n (entries (n * index_size) nodes.old dists.old) }
-    requires room { Room n index_size nodes.old dists.old pool_nodes.old pool_dists.old }
-    ensures { Linked n index_size (link_back (between lanes.now dimension) threshold index_size v.0 e (entries (n * index_size) nodes.old dists.old)) nodes.new dists.new }
+    requires within { (v.0 < counters.n) × (e.node.0 < counters.n) × Sound counters.n (entries (counters.n * index_size) nodes.old dists.old) }
+    requires room { Room counters.n index_size nodes.old dists.old pool_nodes.old pool_dists.old }
+    ensures { Linked counters.entry.n index_size (link_back (between counters.entry) threshold index_size v.0 e (entries (counters.entry.n * index_size) nodes.old dists.old)) nodes.new dists.new }
 {
     let q = e.node;
-    if is_linked(n, index_size, nodes, dists, q, v) {
+    if is_linked(counters.n, index_size, nodes, dists, q, v) {
         return;
     }
     let row = q.0 as usize;
@@ -62,9 +61,7 @@ fn link_back(
         distance: e.distance,
     };
     offers::offer(
-        lanes,
-        dimension,
-        n,
+        counters,
         threshold,
         index_size,
         &mut nodes[from..to],
@@ -89,18 +86,12 @@ fn entry_in(n: usize, index_size: usize, nodes: &[u32], dists: &[f32], slot: Slo
     requires { (slot.0 < n * index_size) × (n * index_size ≤ length nodes.now) × (n * index_size ≤ length dists.now) }
     ensures { result ≡ get_or (entries (n * index_size) nodes.now dists.now) slot.0 (empty_slot 0) }
 {
-    let at = slot.0;
-    Neighbor {
-        node: NodeId(nodes[at]),
-        distance: dists[at],
-    }
+    lists::entry_at(nodes, dists, slot.0)
 }
 
 // Link `i` of node `v`: an empty slot links nothing.
 fn link(
-    lanes: &[f32],
-    dimension: usize,
-    n: usize,
+    counters: Counters<'_>,
     threshold: f32,
     index_size: usize,
     nodes: &mut [u32],
@@ -110,25 +101,23 @@ fn link(
     v: NodeId,
     i: usize,
 )
-    requires lanes_len { (length lanes.now ≡ n * dimension) × (v.0 < n) × (i < index_size) × Sound n (entries (n * index_size) nodes.old dists.old) }
-    requires room { Room n index_size nodes.old dists.old pool_nodes.old pool_dists.old }
-    ensures { Linked n index_size (link (between lanes.now dimension) threshold index_size v.0 i (entries (n * index_size) nodes.old dists.old)) nodes.new dists.new }
+    requires within { (v.0 < counters.n) × (i < index_size) × Sound counters.n (entries (counters.n * index_size) nodes.old dists.old) }
+    requires room { Room counters.n index_size nodes.old dists.old pool_nodes.old pool_dists.old }
+    ensures { Linked counters.entry.n index_size (link (between counters.entry) threshold index_size v.0 i (entries (counters.entry.n * index_size) nodes.old dists.old)) nodes.new dists.new }
 {
     let slot = slot_read(index_size, v, i);
-    let e = entry_in(n, index_size, nodes, dists, slot);
+    let e = entry_in(counters.n, index_size, nodes, dists, slot);
     if e.distance == rows::EMPTY {
         return;
     }
     link_back(
-        lanes, dimension, n, threshold, index_size, nodes, dists, pool_nodes, pool_dists, v, e,
+        counters, threshold, index_size, nodes, dists, pool_nodes, pool_dists, v, e,
     );
 }
 
 // The links of node `v` (hora's `inter_insert`).
 fn link_node(
-    lanes: &[f32],
-    dimension: usize,
-    n: usize,
+    counters: Counters<'_>,
     threshold: f32,
     index_size: usize,
     nodes: &mut [u32],
@@ -137,25 +126,21 @@ fn link_node(
     pool_dists: &mut [f32],
     v: NodeId,
 )
-    requires lanes_len { (length lanes.now ≡ n * dimension) × (v.0 < n) × Sound n (entries (n * index_size) nodes.old dists.old) }
-    requires room { Room n index_size nodes.old dists.old pool_nodes.old pool_dists.old }
-    ensures { Linked n index_size (links_of (between lanes.now dimension) threshold index_size v.0 (entries (n * index_size) nodes.old dists.old)) nodes.new dists.new }
+    requires within { (v.0 < counters.n) × Sound counters.n (entries (counters.n * index_size) nodes.old dists.old) }
+    requires room { Room counters.n index_size nodes.old dists.old pool_nodes.old pool_dists.old }
+    ensures { Linked counters.entry.n index_size (links_of (between counters.entry) threshold index_size v.0 (entries (counters.entry.n * index_size) nodes.old dists.old)) nodes.new dists.new }
 {
-    let mut i: usize = 0;
-    while i < index_size {
+    for i in 0..index_size {
         link(
-            lanes, dimension, n, threshold, index_size, nodes, dists, pool_nodes, pool_dists, v, i,
+            counters, threshold, index_size, nodes, dists, pool_nodes, pool_dists, v, i,
         );
-        i += 1;
     }
 }
 
 /// Step 5: the reverse links of every node, rising, among n times `index_size` slots; the pool has a place for a row and one offer more
 /// (hora's `inter_insert`, called by `link_each_nodes`).
 pub fn link_all(
-    lanes: &[f32],
-    dimension: usize,
-    n: usize,
+    counters: Counters<'_>,
     threshold: f32,
     index_size: usize,
     nodes: &mut [u32],
@@ -163,16 +148,14 @@ pub fn link_all(
     pool_nodes: &mut [u32],
     pool_dists: &mut [f32],
 )
-    requires lanes_len { (length lanes.now ≡ n * dimension) × Sound n (entries (n * index_size) nodes.old dists.old) }
-    requires room { Room n index_size nodes.old dists.old pool_nodes.old pool_dists.old }
-    ensures { Linked n index_size (links_all (between lanes.now dimension) n threshold index_size (entries (n * index_size) nodes.old dists.old)) nodes.new dists.new }
+    requires within { Sound counters.n (entries (counters.n * index_size) nodes.old dists.old) }
+    requires room { Room counters.n index_size nodes.old dists.old pool_nodes.old pool_dists.old }
+    ensures { Linked counters.entry.n index_size (links_all (between counters.entry) counters.entry.n threshold index_size (entries (counters.entry.n * index_size) nodes.old dists.old)) nodes.new dists.new }
 {
-    let mut v: usize = 0;
-    while v < n {
+    for v in 0..counters.n {
         let node = NodeId(v as u32);
         link_node(
-            lanes, dimension, n, threshold, index_size, nodes, dists, pool_nodes, pool_dists, node,
+            counters, threshold, index_size, nodes, dists, pool_nodes, pool_dists, node,
         );
-        v += 1;
     }
 }

@@ -3,11 +3,12 @@
 
 ghost use Rattle.std.specs.Prelude.{◌≡◌, [], ◌∷◌, ◌++◌, ◌+◌, ◌*◌, ◌<◌, length};
 ghost use Rattle.rules.specs.Lists.{entries, sort};
-ghost use Rattle.rules.specs.Distance.{between};
 ghost use Rattle.rules.specs.Build.{at_full, offered};
+ghost use Rattle.metrics.specs.Counters.{between};
 ghost use Rattle.prune.specs.Chosen.{AllBelow};
 ghost use Rattle.offers.specs.Sound.{Sound, Row};
 
+use metrics::Counters;
 use rules::Neighbor;
 
 // Sorts the entries of a row with the offer, in the pool.
@@ -22,19 +23,16 @@ fn gather(
     requires { Row w nodes.now dists.now pool_nodes.old pool_dists.old }
     ensures { entries (w + 1) pool_nodes.new pool_dists.new ≡ sort (entries w nodes.now dists.now ++ (offer ∷ [])) }
 {
-    buffers::copy_words(w, nodes, pool_nodes);
-    buffers::copy_floats(w, dists, pool_dists);
-    let v = offer.node;
-    pool_nodes[w] = v.0;
+    buffers::copy_front(w, nodes, pool_nodes);
+    buffers::copy_front(w, dists, pool_dists);
+    pool_nodes[w] = offer.node.0;
     pool_dists[w] = offer.distance;
     lists::sort(pool_nodes, pool_dists, w + 1);
 }
 
 // What becomes of an offer at a full row: the chosen from the row's start, and the next slot marked.
 fn offer_full(
-    lanes: &[f32],
-    dimension: usize,
-    n: usize,
+    counters: Counters<'_>,
     threshold: f32,
     w: usize,
     nodes: &mut [u32],
@@ -43,26 +41,23 @@ fn offer_full(
     pool_dists: &mut [f32],
     offer: Neighbor,
 )
-    requires lanes_len { (length lanes.now ≡ n * dimension) × (offer.node.0 < n) × AllBelow n (entries w nodes.old dists.old) }
+    requires within { (offer.node.0 < counters.n) × AllBelow counters.n (entries w nodes.old dists.old) }
     requires row { Row w nodes.old dists.old pool_nodes.old pool_dists.old }
-    ensures { entries w nodes.new dists.new ≡ at_full (between lanes.now dimension) threshold w offer (entries w nodes.old dists.old) }
+    ensures { entries w nodes.new dists.new ≡ at_full (between counters.entry) threshold w offer (entries w nodes.old dists.old) }
 {
     gather(w, nodes, dists, pool_nodes, pool_dists, offer);
     let len = w + 1;
     let kept = prune::choose(
-        lanes, dimension, n, threshold, true, pool_nodes, pool_dists, len, nodes, dists, w,
+        counters, threshold, true, pool_nodes, pool_dists, len, nodes, dists, w,
     );
-    if w <= kept {
-        return;
+    if kept < w {
+        dists[kept] = rows::EMPTY;
     }
-    dists[kept] = rows::EMPTY;
 }
 
 /// What becomes of an offer at a row (the body of hora's `inter_insert`).
 pub fn offer(
-    lanes: &[f32],
-    dimension: usize,
-    n: usize,
+    counters: Counters<'_>,
     threshold: f32,
     w: usize,
     nodes: &mut [u32],
@@ -71,21 +66,17 @@ pub fn offer(
     pool_dists: &mut [f32],
     offer: Neighbor,
 )
-    requires lanes_len { (length lanes.now ≡ n * dimension) × (offer.node.0 < n) × Sound n (entries w nodes.old dists.old) }
+    requires within { (offer.node.0 < counters.n) × Sound counters.n (entries w nodes.old dists.old) }
     requires row { Row w nodes.old dists.old pool_nodes.old pool_dists.old }
-    ensures { entries w nodes.new dists.new ≡ offered (between lanes.now dimension) threshold w offer (entries w nodes.old dists.old) }
+    ensures { entries w nodes.new dists.new ≡ offered (between counters.entry) threshold w offer (entries w nodes.old dists.old) }
 {
     let live = rows::live_len(dists, w);
     if w <= live {
         offer_full(
-            lanes, dimension, n, threshold, w, nodes, dists, pool_nodes, pool_dists, offer,
+            counters, threshold, w, nodes, dists, pool_nodes, pool_dists, offer,
         );
-        return;
+    } else if live + 1 == w {
+        nodes[live] = offer.node.0;
+        dists[live] = offer.distance;
     }
-    if live + 1 != w {
-        return;
-    }
-    let v = offer.node;
-    nodes[live] = v.0;
-    dists[live] = offer.distance;
 }

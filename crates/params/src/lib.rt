@@ -5,7 +5,7 @@ ghost use Rattle.std.specs.Prelude.{◌≡◌};
 ghost use Rattle.params.specs.Params.{defaults, with_threshold, with_init_k, with_index_size, with_neighbor_neighbor_size};
 
 /// The parameters of a build (hora's `SSGParams`): the threshold stands for the angle, and the roots are given.
-#[derive(Clone, Copy)]
+#[derive(Clone, Copy, Debug, PartialEq)]
 pub struct SsgParams {
     pub threshold: f32,
     pub init_k: usize,
@@ -13,11 +13,11 @@ pub struct SsgParams {
     pub neighbor_neighbor_size: usize,
 }
 
-impl SsgParams {
-    /// The defaults (hora's `default`): 64, 64 and 100, and the threshold 0.5.
-    pub fn default() -> Self
-        ensures { result ≡ defaults }
-    {
+/// The defaults (hora's `default`): 64, 64 and 100, and the threshold 0.5.
+impl Default for SsgParams {
+    ghost is_default = { λ p. p ≡ defaults };
+
+    fn default() -> Self {
         SsgParams {
             threshold: 0.5,
             init_k: 64,
@@ -25,7 +25,9 @@ impl SsgParams {
             neighbor_neighbor_size: 100,
         }
     }
+}
 
+impl SsgParams {
     /// The parameters with another threshold (hora's `angle`).
     pub fn threshold(mut self, new_threshold: f32) -> Self
         ensures { result ≡ with_threshold self new_threshold }

@@ -9,12 +9,12 @@ use native.Mathlib.Omega.{arith}
 use lib.Dec.{ltb}
 use lib.ListN.{length, drop, get_or, set, length-append, length-set}
 use lib.Seq.{drop-set-lt, take-set-le, get_or-set_same}
-use lib.Ieee.{Float, nan, lt}
-use borrow.Author.Tests.{lt-ltb, le-ltb, ltb-true, ltb-false, eq-eqb, ne_eqb}
+use lib.Ieee.{Float, nan}
+use borrow.Author.Tests.{lt-ltb, le-ltb, ltb-true, ltb-false}
 use Rattle.rules.specs.declared.Neighbor.{Neighbor}
 use Rattle.rules.specs.Loops.{through, any_of}
 use Rattle.rules.specs.Lists.{neighbor, node_of, entries, sort}
-use Rattle.rules.specs.Build.{cosine, occludes, keep, choose, Between}
+use Rattle.rules.specs.Build.{occludes, keep, choose, Between}
 use Rattle.rules.proofs.Loops.{through-end, any_end}
 use Rattle.lists.proofs.Slices.{length-entries, drop-entries, entries-suc, entries-same}
 use Rattle.lists.proofs.Plain.{drop-later, all_append, all-sort}
@@ -25,27 +25,10 @@ use Rattle.prune.specs.Chosen.{AllBelow, FourStand, Kept, Chosen}
 -- ---- one entry against another
 
 module _ (d : Between) (t : Float) (b : Bool) (p r : Neighbor) where
-  pub occludes_equal : b ≡ true → node_of p ≡ node_of r → true ≡ occludes d t b p r
-  unfolding occludes
-  occludes_equal e h = rw (e, eq-eqb (node_of p) (node_of r) h)
-
-  -- where no equal node occludes, the cosine decides
-  pub occludes-other : (node_of p ≡ node_of r → ⊥) → lt t (cosine p.distance r.distance (d (node_of p) (node_of r))) ≡ occludes d t b p r
-  unfolding occludes
-  occludes-other h = rw (ne_eqb (node_of p) (node_of r) h) (go b)
-    where
-      go : (b : Bool) → lt t (cosine p.distance r.distance (d (node_of p) (node_of r))) ≡ (b && false) || lt t (cosine p.distance r.distance (d (node_of p) (node_of r)))
-      go true = refl
-      go false = refl
-
   -- the distance of the two is all that is asked of the distances
   pub occludes-apart : (e : Between) → e (node_of p) (node_of r) ≡ d (node_of p) (node_of r) → occludes e t b p r ≡ occludes d t b p r
   unfolding occludes
   occludes-apart e h = rw h
-
-  pub occludes_plain : b ≡ false → lt t (cosine p.distance r.distance (d (node_of p) (node_of r))) ≡ occludes d t b p r
-  unfolding occludes
-  occludes_plain e = rw e
 
 -- what was asked of an entry by its distance is asked of the entry
 pub stood : (d : Between) (t : Float) (b : Bool) (p : Neighbor) {r : Neighbor} {djk : Float} {s : Bool} (x : Neighbor) → s ≡ occludes (λ (i j : ℕ). djk) t b p r

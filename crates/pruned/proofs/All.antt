@@ -6,7 +6,7 @@ use native.Mathlib.Nat.{suc-mul, zero-mul, le_of_suc-le-suc, not-suc-le-zero}
 use native.Mathlib.Numerals.{add-one}
 use native.Mathlib.Omega.{arith}
 use borrow.Rule.Slice.PartMut.{mid_of, put_mid}
-use lib.ListN.{length, take, drop, replicate, length-replicate}
+use lib.ListN.{length, take, drop, replicate, length-replicate, length-append, length-drop}
 use lib.Seq.{length-take-le, take_all, take_at}
 use lib.Ieee.{Float}
 use Rattle.rules.specs.declared.Neighbor.{Neighbor}
@@ -15,31 +15,19 @@ use Rattle.rules.specs.Lists.{entries}
 use Rattle.rules.specs.Calls.{BuildSizes}
 use Rattle.rules.specs.Build.{Between, pruned, pruned_slots}
 use Rattle.rules.proofs.Loops.{each_turn, row_in}
-use Rattle.buffers.proofs.Places.{length-area, put-length, put-area}
+use Rattle.buffers.proofs.Places.{length-area, put-length}
 use Rattle.lists.proofs.Slices.{entries-take, entries-same}
-use Rattle.rows.proofs.Laws.{slots-most, entries-append}
-use Rattle.pruned.specs.Pruned.{Room, PrunedRow, PrunedAll}
+use Rattle.rows.proofs.Laws.{entries-append}
+use Rattle.pruned.specs.Pruned.{PrunedRow, PrunedAll}
 
 pub record Pruning (d : Between) (n : ℕ) (p : BuildSizes) (ns₀ : List ℕ) (ds₀ : List Float) (ns : List ℕ) (ds : List Float) (flags pool : List ℕ) (pools : List Float) (q : ℕ) : Type 0 where
   pub rows : entries (q * p.index_size) ns ds ≡ each (pruned d n p) q
   pub nodes_long : length ns ≡ length ns₀
   pub dists_long : length ds ≡ length ds₀
   pub flags_long : length flags ≡ 4096
-  pub clear : mid_of 0 n flags ≡ replicate n 0
+  pub clear : take n flags ≡ replicate n 0
   pub pool_nodes : length pool ≡ 320
   pub pool_dists : length pools ≡ 320
-
--- where the q-th row lies
-pub record Where (n w q nodes dists : ℕ) : Type 0 where
-  pub nodes_in : q * w + w ≤ nodes
-  pub dists_in : q * w + w ≤ dists
-  pub small : q * w ≤ 262144
-
-pub where_is : (n w q nodes dists : ℕ) → q < n → n ≤ 4096 → w ≤ 64 → n * w ≤ nodes → n * w ≤ dists → Where n w q nodes dists
-where_is n w q nodes dists h few wide f g =
-    let inside = row_in n w q h in
-    let most = slots-most n w few wide in
-    record { nodes_in = omega arith; dists_in = omega arith; small = omega arith }
 
 pub pruning_none : (d : Between) (n : ℕ) (p : BuildSizes) (ns : List ℕ) (ds : List Float) (flags pool : List ℕ) (pools : List Float) → flags ≡ replicate 4096 0 → length pool ≡ 320 → length pools ≡ 320 → n ≤ 4096
     → Pruning d n p ns ds ns ds flags pool pools 0
@@ -50,7 +38,7 @@ pruning_none d n p ns ds flags pool pools e f g few =
       nodes_long = refl;
       dists_long = refl;
       flags_long = ap length e ∙ length-replicate {A = ℕ} 4096 0;
-      clear = ap (mid_of 0 n) e ∙ take-replicate n 4096 few;
+      clear = ap (take n) e ∙ take-replicate n 4096 few;
       pool_nodes = f;
       pool_dists = g;
     }
@@ -73,24 +61,11 @@ row-behind w q ns ys ds zs h g y z =
     (entries-same w (ys ++ drop w (drop a ns)) ys (zs ++ drop w (drop a ds)) zs (take_at ys (drop w (drop a ns)) w y ∙ sym (take_all w ys (omega arith))) (take_at zs (drop w (drop a ds)) w z ∙ sym (take_all w zs (omega arith))))
 
 module _ {d : Between} {n : ℕ} {p : BuildSizes} {ns₀ : List ℕ} {ds₀ : List Float} {ns : List ℕ} {ds : List Float} {flags pool : List ℕ} {pools : List Float} {q : ℕ} (inv : Pruning d n p ns₀ ds₀ ns ds flags pool pools q) where
-  -- the flags as they are lent
-  pub pruning_room : {k : ℕ} → k ≡ n → n ≤ 4096 → Room n (mid_of 0 k flags) pool pools
-  pruning_room {k} e few =
-      let long = inv.flags_long in
-      let lent : length (mid_of 0 n flags) ≡ n = length-area 0 n flags (omega arith) in
-      rw e
-      (record {
-        long = lent;
-        clear = inv.clear ∙ ap (λ (m : ℕ). replicate m 0) (sym lent);
-        nodes_long = inv.pool_nodes;
-        dists_long = inv.pool_dists;
-      })
-
-  pub pruning_turn : {k w : ℕ} {seen ns' pool' : List ℕ} {ds' pools' : List Float} → k ≡ n → w ≡ p.index_size → q < n → n ≤ 4096
+  pub pruning_turn : {w : ℕ} {seen ns' pool' : List ℕ} {ds' pools' : List Float} → w ≡ p.index_size → q < n → n ≤ 4096
       → n * p.index_size ≤ length ns₀ → n * p.index_size ≤ length ds₀
-      → PrunedRow d n p q (mid_of 0 k flags) seen pool' pools' ns' ds' → length ns' ≡ length (mid_of (q * p.index_size) w ns) → length ds' ≡ length (mid_of (q * p.index_size) w ds)
-      → Pruning d n p ns₀ ds₀ (put_mid (q * p.index_size) w ns ns') (put_mid (q * p.index_size) w ds ds') (put_mid 0 k flags seen) pool' pools' (q + 1)
-  pruning_turn {k} {w} {seen} {ns'} {pool'} {ds'} {pools'} e f h few nodes dists made nl dl =
+      → PrunedRow d n p q (take n flags) seen pool' pools' ns' ds' → length ns' ≡ length (mid_of (q * p.index_size) w ns) → length ds' ≡ length (mid_of (q * p.index_size) w ds)
+      → Pruning d n p ns₀ ds₀ (put_mid (q * p.index_size) w ns ns') (put_mid (q * p.index_size) w ds ds') (seen ++ drop n flags) pool' pools' (q + 1)
+  pruning_turn {w} {seen} {ns'} {pool'} {ds'} {pools'} f h few nodes dists made nl dl =
       let v = p.index_size in
       let nodes_now = inv.nodes_long in
       let dists_now = inv.dists_long in
@@ -98,15 +73,14 @@ module _ {d : Between} {n : ℕ} {p : BuildSizes} {ns₀ : List ℕ} {ds₀ : Li
       let inside = row_in n v q h in
       let y : length ns' ≡ v = nl ∙ ap (λ (m : ℕ). length (mid_of (q * v) m ns)) f ∙ length-area (q * v) v ns (omega arith) in
       let z : length ds' ≡ v = dl ∙ ap (λ (m : ℕ). length (mid_of (q * v) m ds)) f ∙ length-area (q * v) v ds (omega arith) in
-      let same : seen ≡ mid_of 0 n flags = made.flags ∙ ap (λ (m : ℕ). mid_of 0 m flags) e in
-      let seen-long : length seen ≡ n = ap length same ∙ length-area 0 n flags (omega arith) in
-      rw (e, f)
+      let seen-long : length seen ≡ n = ap length made.flags ∙ length-take-le n flags (omega arith) in
+      rw f
       (record {
         rows = row-behind v q ns ns' ds ds' (omega arith) (omega arith) y z ∙ ap (λ (l : List Neighbor). l ++ entries v ns' ds') inv.rows ∙ ap (λ (l : List Neighbor). each (pruned d n p) q ++ l) made.row ∙ each_turn (pruned d n p) q;
         nodes_long = put-length (q * v) v ns ns' (omega arith) y ∙ inv.nodes_long;
         dists_long = put-length (q * v) v ds ds' (omega arith) z ∙ inv.dists_long;
-        flags_long = put-length 0 n flags seen (omega arith) seen-long ∙ inv.flags_long;
-        clear = put-area 0 n flags seen (omega arith) seen-long ∙ same ∙ inv.clear;
+        flags_long = simp (length-append, length-drop) (omega arith);
+        clear = take_at seen (drop n flags) n seen-long ∙ made.flags ∙ inv.clear;
         pool_nodes = made.nodes_long;
         pool_dists = made.dists_long;
       })

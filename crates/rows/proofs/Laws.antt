@@ -1,14 +1,20 @@
 -- Laws of rows in two slices over plain lists: their entries, their live part, rows filled up, and the finished rows. Assumes nothing.
 use mathlib.Core.Path.{◌≡◌, refl, sym, ap, ◌∙◌}
-use mathlib.Core.Bool.{Bool, true, false, cond}
+use mathlib.Core.Bool.{Bool, true, false, cond, not}
 use mathlib.Core.List.{List, [], ◌∷◌, ◌++◌, append-nil, append_assoc}
 use Prim.Native.Nat.{ℕ, zero, suc, ◌+◌, ◌-◌, ◌*◌, ◌≤◌, ◌<◌, zero-le, suc-le-suc}
 use native.Mathlib.Nat.{le_of_suc-le-suc, not-suc-le-zero, suc_inj, zero-add, suc-add, suc-mul, zero-mul, mul-le-mul_right}
 use native.Mathlib.Numerals.{add-one}
 use native.Mathlib.Omega.{arith}
-use lib.ListN.{length, take, drop, get_or, set, replicate, length-append, length-take, length-drop, length-set, length-replicate, drop_of_length-le}
-use lib.Seq.{take_all, take-suc-set, length-take-le, take_at, drop_at, drop-drop}
-use lib.Ieee.{Float}
+use borrow.Author.Tests.{ltb-false}
+use Rattle.std.proofs.Common.{Option, Some, None}
+use Rattle.std.specs.Option.{unwrap_or}
+use Rattle.std.specs.List.{position, position_or_len}
+use Rattle.std.proofs.lemmas.List.Sums.{prefix_len-le-length}
+use lib.Dec.{ltb}
+use lib.ListN.{length, take, drop, replicate, length-append, length-take, length-drop, length-replicate, drop_of_length-le}
+use lib.Seq.{length-take-le, take_at, drop_at, drop-drop}
+use lib.Ieee.{Float, eq}
 use borrow.Rule.Slice.PartMut.{mid_of, put_mid, same_len_mid}
 use Rattle.rules.specs.declared.Neighbor.{Neighbor}
 use Rattle.rules.specs.Loops.{each, part}
@@ -16,7 +22,7 @@ use Rattle.rules.specs.Lists.{neighbor, nodes_of, entries}
 use Rattle.rules.specs.Rows.{empty_distance, is_empty, live, finished}
 use Rattle.rules.specs.Build.{row_of, graph_from}
 use Rattle.rules.proofs.Loops.{length-each, row_in}
-use Rattle.lists.proofs.Slices.{length-entries, drop-entries, entries-take, take-entries, entries-suc, nodes_of-entries}
+use Rattle.lists.proofs.Slices.{length-entries, entries-take, take-entries, nodes_of-entries}
 use Rattle.lists.proofs.Plain.{length-nodes}
 use Rattle.rows.specs.Live.{LiveIn, filled}
 
@@ -75,34 +81,16 @@ part-entries w q m ns ds h k g =
 
 -- ---- a slice filled up from place k on
 
-module _ {A : Type 0} where
-  pub record Filling (k : ℕ) (a : A) (xs now : List A) (i : ℕ) : Type 0 where
-    pub long : length now ≡ length xs
-    pub list : take i now ++ replicate (length xs - i) a ≡ filled k a xs
-
-  pub filling_none : (k : ℕ) (a : A) (xs : List A) → Filling k a xs xs k
-  unfolding filled
-  filling_none k a xs = record { long = refl; list = refl }
-
-  pub filling_turn : {k : ℕ} {a : A} {xs now : List A} {i : ℕ} → Filling k a xs now i → i < length xs → Filling k a xs (set now i a) (i + 1)
-  filling_turn {k} {a} {xs} {now} {i} inv h =
-      let long = inv.long in
-      let e : length xs - i ≡ suc (length xs - suc i) = omega arith in
-      record {
-        long = length-set now i a ∙ long;
-        list =
-            rw add-one
-            (ap (λ (l : List A). l ++ replicate (length xs - suc i) a) (take-suc-set now i a (omega arith))
-            ∙ append_assoc (take i now) (a ∷ []) (replicate (length xs - suc i) a)
-            ∙ ap (λ (m : ℕ). take i now ++ replicate m a) (sym e) ∙ inv.list);
-      }
-
-  pub filling_end : {k : ℕ} {a : A} {xs now : List A} {i : ℕ} → Filling k a xs now i → length xs ≤ i → now ≡ filled k a xs
-  filling_end {k} {a} {xs} {now} {i} inv h =
-      let long = inv.long in
-      let e : length xs - i ≡ 0 = omega arith in
-      sym (append-nil now) ∙ ap (λ (l : List A). l ++ []) (sym (take_all i now (omega arith)))
-      ∙ ap (λ (m : ℕ). take i now ++ replicate m a) (sym e) ∙ inv.list
+pub filled_by : {A : Type 0} (k : ℕ) (a : A) (xs ys : List A) → k ≤ length xs → ys ≡ replicate (length (mid_of k (length xs - k) xs)) a
+    → put_mid k (length xs - k) xs ys ≡ filled k a xs
+unfolding filled
+filled_by k a xs ys h e =
+    let m = length xs - k in
+    let left : length (drop k xs) ≡ m = length-drop k xs in
+    let long : length (mid_of k m xs) ≡ m = length-take-le m (drop k xs) (omega arith) in
+    ap (λ (l : List _). take k xs ++ (l ++ drop m (drop k xs))) (e ∙ ap (λ (n : ℕ). replicate n a) long)
+    ∙ ap (λ (l : List _). take k xs ++ (replicate m a ++ l)) (drop_of_length-le (drop k xs) {i = m} (omega arith))
+    ∙ ap (λ (l : List _). take k xs ++ l) (append-nil (replicate m a))
 
 -- "Empty slots hold node n and distance 0x7F7FFFFF": the row written
 pub row-filled : (n w k : ℕ) (ns : List ℕ) (ds : List Float) → length ns ≡ w → length ds ≡ w → k ≤ w
@@ -117,71 +105,40 @@ row-filled n w k ns ds h g l =
     ∙ ap (λ (l : List Neighbor). l ++ entries (w - k) (replicate (w - k) n) (replicate (w - k) empty_distance)) (entries-take k ns ds)
     ∙ ap (λ (l : List Neighbor). entries k ns ds ++ l) (entries-replicate (w - k) n empty_distance))
 
--- ---- the live part, from the front: i slots are live
+-- ---- the live part: what stands before the first empty distance
 
-pub record Living (w : ℕ) (ds : List Float) (i : ℕ) : Type 0 where
-  pub within : i ≤ w
-  pub list : (ns : List ℕ) → w ≤ length ns → live (entries w ns ds) ≡ entries i ns ds ++ live (drop i (entries w ns ds))
+abbrev first_empty : ℕ → List Float → ℕ
+first_empty w ds = position_or_len (λ (d : Float). eq d empty_distance) (take w ds)
 
-pub living_none : (w : ℕ) (ds : List Float) → Living w ds 0
-unfolding entries
-living_none w ds = record { within = zero-le; list = λ (ns : List ℕ) (h : w ≤ length ns). refl }
+live_first : (w : ℕ) (ns : List ℕ) (ds : List Float) → w ≤ length ns → w ≤ length ds → live (entries w ns ds) ≡ entries (first_empty w ds) ns ds
+unfolding live entries is_empty
+live_first zero ns ds h g = refl
+live_first (suc w) [] ds h g = absurd (not-suc-le-zero h)
+live_first (suc w) (n ∷ ns) [] h g = absurd (not-suc-le-zero g)
+live_first (suc w) (n ∷ ns) (d ∷ ds) h g = go (eq d empty_distance) (live_first w ns ds (le_of_suc-le-suc h) (le_of_suc-le-suc g))
+  where
+    go : (b : Bool) → live (entries w ns ds) ≡ entries (first_empty w ds) ns ds
+        → cond b [] (neighbor n d ∷ live (entries w ns ds)) ≡ entries (cond (not b) (1 + first_empty w ds) 0) (n ∷ ns) (d ∷ ds)
+    go true q = refl
+    go false q =
+        let e : 1 + first_empty w ds ≡ suc (first_empty w ds) = omega arith in
+        rw (e, q)
 
-live_here : (e : Neighbor) (es : List Neighbor) → is_empty e ≡ true → live (e ∷ es) ≡ []
-unfolding live
-live_here e es h = rw h
-
-live_more : (e : Neighbor) (es : List Neighbor) → is_empty e ≡ false → live (e ∷ es) ≡ e ∷ live es
-unfolding live
-live_more e es h = rw h
-
-live-nil : live [] ≡ []
-unfolding live
-live-nil = refl
-
-module _ {w : ℕ} {ds : List Float} {i : ℕ} (inv : Living w ds i) (k : w ≤ length ds) where
-  pub living_here : (d : Float) → i < w → is_empty (neighbor 0 (get_or ds i d)) ≡ true → LiveIn w ds i
-  unfolding is_empty
-  living_here d l e =
-      record {
-        within = inv.within;
-        list =
-            λ (ns : List ℕ) (h : w ≤ length ns).
-            inv.list ns h
-            ∙ ap (λ (l : List Neighbor). entries i ns ds ++ live l) (drop-entries w i ns ds 0 d l h k)
-            ∙ ap (λ (l : List Neighbor). entries i ns ds ++ l) (live_here (neighbor (get_or ns i 0) (get_or ds i d)) (drop (suc i) (entries w ns ds)) e)
-            ∙ append-nil (entries i ns ds);
-      }
-
-  pub living_turn : (d : Float) → i < w → is_empty (neighbor 0 (get_or ds i d)) ≡ false → Living w ds (i + 1)
-  unfolding is_empty
-  living_turn d l e =
-      record {
-        within = omega arith;
-        list =
-            λ (ns : List ℕ) (h : w ≤ length ns).
-            let x = neighbor (get_or ns i 0) (get_or ds i d) in
-            let E = entries w ns ds in
-            rw add-one
-            (inv.list ns h
-            ∙ ap (λ (l : List Neighbor). entries i ns ds ++ live l) (drop-entries w i ns ds 0 d l h k)
-            ∙ ap (λ (l : List Neighbor). entries i ns ds ++ l) (live_more x (drop (suc i) E) e)
-            ∙ sym (append_assoc (entries i ns ds) (x ∷ []) (live (drop (suc i) E)))
-            ∙ ap (λ (l : List Neighbor). l ++ live (drop (suc i) E)) (sym (entries-suc i ns ds 0 d (omega arith) (omega arith))));
-      }
-
-  pub living_end : w ≤ i → LiveIn w ds i
-  living_end l =
-      record {
-        within = inv.within;
-        list =
-            λ (ns : List ℕ) (h : w ≤ length ns).
-            let long = length-entries w ns ds h k in
-            inv.list ns h
-            ∙ ap (λ (l : List Neighbor). entries i ns ds ++ live l) (drop_of_length-le (entries w ns ds) {i = i} (omega arith))
-            ∙ ap (λ (l : List Neighbor). entries i ns ds ++ l) live-nil
-            ∙ append-nil (entries i ns ds);
-      }
+-- the place of the first empty distance, or w where there is none
+pub live_in : {w : ℕ} {ds : List Float} {o : Option ℕ} → w ≤ length ds → o ≡ position (λ (d : Float). eq d empty_distance) (take w ds) → LiveIn w ds (unwrap_or o w)
+live_in {w} {ds} {o} h e =
+    let some = prefix_len-le-length (λ (d : Float). not (eq d empty_distance)) (take w ds) in
+    let all = length-take-le w ds h in
+    let at : unwrap_or o w ≡ first_empty w ds = rw e (go (ltb (first_empty w ds) (length (take w ds))) refl some all) in
+    record {
+      within = omega arith;
+      list = λ (ns : List ℕ) (g : w ≤ length ns). live_first w ns ds g h ∙ ap (λ (r : ℕ). entries r ns ds) (sym at);
+    }
+  where
+    go : (b : Bool) → ltb (first_empty w ds) (length (take w ds)) ≡ b → first_empty w ds ≤ length (take w ds) → length (take w ds) ≡ w
+        → unwrap_or (cond b (Some (first_empty w ds)) None) w ≡ first_empty w ds
+    go true f h g = refl
+    go false f h g = let l = ltb-false (first_empty w ds) (length (take w ds)) f in omega arith
 
 pub length-live : (es : List Neighbor) → length (live es) ≤ length es
 unfolding live

@@ -8,45 +8,14 @@ ghost use Rattle.rules.specs.Build.{row_of, graph_from};
 ghost use Rattle.rows.specs.Live.{LiveIn, filled};
 
 /// The distance of an empty slot, 0x7F7FFFFF (hora's `E::max_value()`).
-pub const EMPTY: f32 = 3.4028235e38;
+pub const EMPTY: f32 = f32::MAX;
 
 /// How many slots of a row `w` wide are live: those in front of its first empty distance.
 pub fn live_len(dists: &[f32], w: usize) -> usize
     requires { w ≤ length dists.now }
     ensures { LiveIn w dists.now result }
 {
-    let mut i: usize = 0;
-    while i < w {
-        if dists[i] == EMPTY {
-            return i;
-        }
-        i += 1;
-    }
-    i
-}
-
-// Writes node `n` to every place from `from` on.
-fn fill_nodes(nodes: &mut [u32], from: usize, n: usize)
-    requires { (from ≤ length nodes.old) × (n ≤ 4096) }
-    ensures { nodes.new ≡ filled from n nodes.old }
-{
-    let mut i = from;
-    while i < nodes.len() {
-        nodes[i] = n as u32;
-        i += 1;
-    }
-}
-
-// Writes the empty distance to every place from `from` on.
-fn fill_dists(dists: &mut [f32], from: usize)
-    requires { from ≤ length dists.old }
-    ensures { dists.new ≡ filled from empty_distance dists.old }
-{
-    let mut i = from;
-    while i < dists.len() {
-        dists[i] = EMPTY;
-        i += 1;
-    }
+    dists[..w].iter().position(|&d| d == EMPTY).unwrap_or(w)
 }
 
 /// Makes a row `w` wide of its first `kept` entries: every slot behind them is empty, and holds node `n`
@@ -55,8 +24,8 @@ pub fn fill_row(nodes: &mut [u32], dists: &mut [f32], w: usize, kept: usize, n: 
     requires { (length nodes.old ≡ w) × (length dists.old ≡ w) × (kept ≤ w) × (n ≤ 4096) }
     ensures { entries w nodes.new dists.new ≡ row_of n w (entries kept nodes.old dists.old) }
 {
-    fill_nodes(nodes, kept, n);
-    fill_dists(dists, kept);
+    nodes[kept..].fill(n as u32);
+    dists[kept..].fill(EMPTY);
 }
 
 /// Step 6 for one row `w` wide: the live nodes, then `n` in every slot left.
@@ -65,7 +34,7 @@ pub fn finish_row(n: usize, w: usize, nodes: &mut [u32], dists: &[f32])
     ensures { nodes.new ≡ finished n w (entries w nodes.old dists.now) }
 {
     let live = live_len(dists, w);
-    fill_nodes(nodes, live, n);
+    nodes[live..].fill(n as u32);
 }
 
 /// Step 6: each row of the graph, in place of the slots' nodes (the last loop of hora's `link`).
@@ -74,11 +43,9 @@ pub fn finish(n: usize, index_size: usize, nodes: &mut [u32], dists: &[f32])
     requires nodes_len { (length nodes.old ≡ n * index_size) × (n * index_size ≤ length dists.now) }
     ensures { nodes.new ≡ graph_from n index_size (entries (n * index_size) nodes.old dists.now) }
 {
-    let mut q: usize = 0;
-    while q < n {
+    for q in 0..n {
         let a = q * index_size;
         let e = a + index_size;
         finish_row(n, index_size, &mut nodes[a..e], &dists[a..e]);
-        q += 1;
     }
 }

@@ -7,8 +7,8 @@ use native.Mathlib.Nat.{le_of_suc-le-suc, not-suc-le-zero}
 use lib.Dec.{ltb}
 use lib.ListN.{length, take, get_or}
 use lib.Ieee.{Float}
-use Rattle.rules.specs.declared.Distance.{Distance}
-use Rattle.rules.specs.declared.Distance.TheVariants.{Fit, Unfit}
+use Rattle.std.specs.Prelude.{Some, None}
+use Rattle.rules.specs.Answers.{Distance}
 use Rattle.rules.specs.declared.Neighbor.{Neighbor}
 use Rattle.rules.specs.Distance.{before}
 use Rattle.rules.specs.Lists.{neighbor, insert}
@@ -54,14 +54,14 @@ module _ (P : Float → Type 0) where
       go true c = b
       go false c = c
 
-module _ (P : Float → Type 0) (apart : ℕ → Distance) (each : (v : ℕ) (x : Float) → apart v ≡ Fit x → P x) where
+module _ (P : Float → Type 0) (apart : ℕ → Distance) (each : (v : ℕ) (x : Float) → apart v ≡ Some x → P x) where
   of_works : (v : ℕ) (es : List Neighbor) → AllOf P es → Whenever (AllOf P) (works_out apart v es (apart v))
   unfolding works_out Whenever
   of_works v es a = go (apart v) refl
     where
       go : (d : Distance) → apart v ≡ d → Whenever (AllOf P) (works_out apart v es d)
-      go (Fit x) e = of_insert P (neighbor v x) es (each v x e) a
-      go Unfit e = tt
+      go (Some x) e = of_insert P (neighbor v x) es (each v x e) a
+      go None e = tt
 
   of_roots : (vs : List ℕ) (es : List Neighbor) → AllOf P es → Whenever (AllOf P) (roots_found apart vs es)
   unfolding roots_found Whenever

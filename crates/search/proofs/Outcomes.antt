@@ -8,15 +8,12 @@ use lib.Dec.{T}
 use lib.ListN.{length, take, drop, get_or, replicate}
 use lib.Seq.{take-take}
 use lib.Ieee.{Float, nan, binary32, is_nan, to_bits}
-use Rattle.rules.specs.declared.Answer.{Answer}
-use Rattle.rules.specs.declared.Answer.TheVariants as answer
-use Rattle.rules.specs.declared.Distance.TheVariants.{Fit}
+use Rattle.std.specs.Prelude.{Ok, Err, Some}
+use Rattle.rules.specs.Answers.{Answer, SearchAnswer}
 use Rattle.rules.specs.declared.NodeId.{NodeId}
 use Rattle.rules.specs.declared.Neighbor.{Neighbor}
 use Rattle.rules.specs.declared.Refusal.{Refusal}
 use Rattle.rules.specs.declared.Refusal.TheVariants.{Pair}
-use Rattle.rules.specs.declared.SearchAnswer.{SearchAnswer}
-use Rattle.rules.specs.declared.SearchAnswer.TheVariants.{Found, Refused}
 use Rattle.rules.specs.Loops.{over}
 use Rattle.rules.specs.Distance.{query_apart, zero32}
 use Rattle.rules.specs.Lists.{neighbor, nodes_of, distances_of, bits_of}
@@ -27,8 +24,7 @@ use Rattle.rules.specs.SearchCall.{SearchLent, SearchOutcome, search_said, searc
 use Rattle.rules.proofs.Answers.{same_search}
 use Rattle.metrics.proofs.Fitness.{query-fit, fit_plain}
 use Rattle.lists.proofs.Slices.{nodes_of-entries, distances_of-entries, length-entries, get_d_entries}
-use Rattle.expand.specs.declared.Counted.{Counted}
-use Rattle.expand.specs.declared.Counted.TheVariants as counted
+use Rattle.expand.specs.Steps.{Counted}
 use Rattle.buffers.specs.Area.{area}
 use Rattle.expand.specs.Areas.{best_at, best_in, Room}
 use Rattle.buffers.proofs.Places.{length-area}
@@ -80,7 +76,7 @@ module _ (n m : ℕ) (us : List ℕ) (fs : List Float) (room : Room n us fs) (fe
 abbrev Number : Float → Type 0
 Number x = T (not (is_nan x))
 
-numbers : (lanes : List Float) (dimension : ℕ) (query : List Float) (v : ℕ) (x : Float) → query_apart lanes dimension query v ≡ Fit x → Number x
+numbers : (lanes : List Float) (dimension : ℕ) (query : List Float) (v : ℕ) (x : Float) → query_apart lanes dimension query v ≡ Some x → Number x
 unfolding is_nan
 numbers lanes dimension query v x e = let p = fit_plain x (query-fit lanes dimension query v x e) in rw p.is tt
 
@@ -88,11 +84,11 @@ module _ (lanes : List Float) (dimension : ℕ) (query : List Float) (rows : ℕ
   abbrev goal : Going Walk
   goal = search_of (query_apart lanes dimension query) rows n k roots
 
-  pub best-numbers : {us us' : List ℕ} {fs fs' : List Float} {r : Counted} {takings m : ℕ} → r ≡ counted.Count takings → WalkedIn goal n (min k (length roots)) us fs us' fs' r → m ≡ min k (length roots) → Room n us' fs' → m ≤ 64
+  pub best-numbers : {us us' : List ℕ} {fs fs' : List Float} {r : Counted} {takings m : ℕ} → r ≡ Ok takings → WalkedIn goal n (min k (length roots)) us fs us' fs' r → m ≡ min k (length roots) → Room n us' fs' → m ≤ 64
       → (i : ℕ) → i < m → T (not (is_nan (get_or (area (best_at n) 64 fs') i nan)))
   unfolding EndsIn Whenever
   best-numbers {us} {us'} {fs} {fs'} {r} {takings} {m} e w f room few i h =
-      let p : WalkedIn goal n (min k (length roots)) us fs us' fs' (counted.Count takings) = rw e at w in
+      let p : WalkedIn goal n (min k (length roots)) us fs us' fs' (Ok takings) = rw e at w in
       let s = p.ends in
       let all : AllOf Number s.0.best = subst (Whenever (λ (t : Walk). AllOf Number t.best)) s.1 (of_search Number (query_apart lanes dimension query) (numbers lanes dimension query) rows n k roots) in
       let best : s.0.best ≡ best_in n us' fs' m = s.3 ∙ ap (best_in n us' fs') (sym f) in
@@ -110,50 +106,50 @@ module _ (l : SearchLent) where
   abbrev walked : Going Walk
   walked = search_of (query_apart l.lanes l.dimension l.query) (graph_row l.n l.index_size l.graph) l.n l.k l.roots
 
-  pub worked-unfit : {us' su : List ℕ} {fs' sf : List Float} {m : ℕ} {r : Counted} {v : NodeId} → r ≡ counted.Unfit v
+  pub worked-unfit : {us' su : List ℕ} {fs' sf : List Float} {m : ℕ} {r : Counted} {v : NodeId} → r ≡ Err v
       → WalkedIn walked l.n m l.scratch_u l.scratch_f us' fs' r → su ≡ replicate (length us') 0 → sf ≡ replicate (length fs') zero32
-      → Worked l (Refused (Pair v (record { 0 = l.n }))) l.result_nodes l.result_bits su sf
+      → Worked l (Err (Pair v (record { 0 = l.n }))) l.result_nodes l.result_bits su sf
   unfolding EndsIn search_work search_ends search_zeroed search_said code_of
   worked-unfit {us'} {su} {fs'} {sf} {m} {r} {v} e w p q =
-      let d : WalkedIn walked l.n m l.scratch_u l.scratch_f us' fs' (counted.Unfit v) = rw e at w in
+      let d : WalkedIn walked l.n m l.scratch_u l.scratch_f us' fs' (Err v) = rw e at w in
       record {
         whole =
-            ap (λ (xs : List ℕ). search_left (Refused (Pair v (record { 0 = l.n }))) l.result_nodes l.result_bits xs sf) (p ∙ ap (λ (k : ℕ). replicate k 0) d.words)
-            ∙ ap (λ (xs : List Float). search_left (Refused (Pair v (record { 0 = l.n }))) l.result_nodes l.result_bits (replicate (length l.scratch_u) 0) xs)
+            ap (λ (xs : List ℕ). search_left (Err (Pair v (record { 0 = l.n }))) l.result_nodes l.result_bits xs sf) (p ∙ ap (λ (k : ℕ). replicate k 0) d.words)
+            ∙ ap (λ (xs : List Float). search_left (Err (Pair v (record { 0 = l.n }))) l.result_nodes l.result_bits (replicate (length l.scratch_u) 0) xs)
             (q ∙ ap (λ (k : ℕ). replicate k zero32) d.floats)
             ∙ ap (search_ends l) (sym d.ends);
       }
 
-  pub worked-found : {us' su : List ℕ} {fs' sf : List Float} {nodes bits : List ℕ} {m takings : ℕ} {r : Counted} → r ≡ counted.Count takings
+  pub worked-found : {us' su : List ℕ} {fs' sf : List Float} {nodes bits : List ℕ} {m takings : ℕ} {r : Counted} → r ≡ Ok takings
       → WalkedIn walked l.n (min l.k (length l.roots)) l.scratch_u l.scratch_f us' fs' r → m ≡ min l.k (length l.roots)
       → nodes ≡ over m (nodes_of (best_in l.n us' fs' m)) l.result_nodes → bits ≡ over m (bits_of (best_in l.n us' fs' m)) l.result_bits
-      → su ≡ replicate (length us') 0 → sf ≡ replicate (length fs') zero32 → Worked l (Found m takings) nodes bits su sf
+      → su ≡ replicate (length us') 0 → sf ≡ replicate (length fs') zero32 → Worked l (Ok (record { m = m; takings = takings })) nodes bits su sf
   unfolding EndsIn search_work search_ends search_zeroed search_said
   worked-found {us'} {su} {fs'} {sf} {nodes} {bits} {m} {takings} {r} e w f g h p q =
-      let d : WalkedIn walked l.n (min l.k (length l.roots)) l.scratch_u l.scratch_f us' fs' (counted.Count takings) = rw e at w in
+      let d : WalkedIn walked l.n (min l.k (length l.roots)) l.scratch_u l.scratch_f us' fs' (Ok takings) = rw e at w in
       let s = d.ends in
       let best : best_in l.n us' fs' m ≡ s.0.best = ap (best_in l.n us' fs') f ∙ sym s.3 in
       record {
         whole =
-            ap (λ (xs : List ℕ). search_left (Found m takings) nodes bits xs sf) (p ∙ ap (λ (k : ℕ). replicate k 0) d.words)
-            ∙ ap (λ (xs : List Float). search_left (Found m takings) nodes bits (replicate (length l.scratch_u) 0) xs) (q ∙ ap (λ (k : ℕ). replicate k zero32) d.floats)
-            ∙ ap (λ (xs : List ℕ). search_left (Found m takings) xs bits (replicate (length l.scratch_u) 0) (replicate (length l.scratch_f) zero32))
+            ap (λ (xs : List ℕ). search_left (Ok (record { m = m; takings = takings })) nodes bits xs sf) (p ∙ ap (λ (k : ℕ). replicate k 0) d.words)
+            ∙ ap (λ (xs : List Float). search_left (Ok (record { m = m; takings = takings })) nodes bits (replicate (length l.scratch_u) 0) xs) (q ∙ ap (λ (k : ℕ). replicate k zero32) d.floats)
+            ∙ ap (λ (xs : List ℕ). search_left (Ok (record { m = m; takings = takings })) xs bits (replicate (length l.scratch_u) 0) (replicate (length l.scratch_f) zero32))
             (g ∙ ap (λ (es : List Neighbor). over m (nodes_of es) l.result_nodes) best)
-            ∙ ap (λ (xs : List ℕ). search_left (Found m takings) (over m (nodes_of s.0.best) l.result_nodes) xs (replicate (length l.scratch_u) 0) (replicate (length l.scratch_f) zero32))
+            ∙ ap (λ (xs : List ℕ). search_left (Ok (record { m = m; takings = takings })) (over m (nodes_of s.0.best) l.result_nodes) xs (replicate (length l.scratch_u) 0) (replicate (length l.scratch_f) zero32))
             (h ∙ ap (λ (es : List Neighbor). over m (bits_of es) l.result_bits) best)
-            ∙ ap (λ (t : ℕ). search_left (Found m t) (over m (nodes_of s.0.best) l.result_nodes) (over m (bits_of s.0.best) l.result_bits) (replicate (length l.scratch_u) 0) (replicate (length l.scratch_f) zero32))
+            ∙ ap (λ (t : ℕ). search_left (Ok (record { m = m; takings = t })) (over m (nodes_of s.0.best) l.result_nodes) (over m (bits_of s.0.best) l.result_bits) (replicate (length l.scratch_u) 0) (replicate (length l.scratch_f) zero32))
             (sym s.2)
-            ∙ ap (λ (k : ℕ). search_left (Found k s.0.takings) (over k (nodes_of s.0.best) l.result_nodes) (over k (bits_of s.0.best) l.result_bits) (replicate (length l.scratch_u) 0) (replicate (length l.scratch_f) zero32))
+            ∙ ap (λ (k : ℕ). search_left (Ok (record { m = k; takings = s.0.takings })) (over k (nodes_of s.0.best) l.result_nodes) (over k (bits_of s.0.best) l.result_bits) (replicate (length l.scratch_u) 0) (replicate (length l.scratch_f) zero32))
             f
             ∙ ap (search_ends l) (sym s.1);
       }
 
-  pub searched_refused : {a : Answer} {r : Refusal} → decision_of a ≡ decide (search_table l) → a ≡ answer.Refused r
-      → Searched l (Refused r) l.result_nodes l.result_bits l.scratch_u l.scratch_f
+  pub searched_refused : {a : Answer} {r : Refusal} → decision_of a ≡ decide (search_table l) → a ≡ Err r
+      → Searched l (Err r) l.result_nodes l.result_bits l.scratch_u l.scratch_f
   unfolding search_rule search_obeys search_said decision_of
   searched_refused {a} {r} e f = record { whole = ap (search_obeys l) (sym (ap decision_of f) ∙ e) }
 
-  pub no_row : {a : Answer} → decision_of a ≡ decide (search_table l) → a ≡ answer.Done → decide (search_table l) ≡ passed
+  pub no_row : {a : Answer} → decision_of a ≡ decide (search_table l) → a ≡ (Ok tt) → decide (search_table l) ≡ passed
   unfolding decision_of
   no_row e f = sym e ∙ ap decision_of f
 

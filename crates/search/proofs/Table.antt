@@ -7,8 +7,8 @@ use native.Mathlib.Omega.{arith}
 use borrow.Author.Tests.{ltb-false, eqb-true, leb-false, not-false, eq-eqb, ne_eqb, lt-ltb, le-ltb}
 use lib.Dec.{leb, ltb, eqb}
 use lib.ListN.{length, take, get_or}
-use Rattle.rules.specs.declared.Answer.{Answer}
-use Rattle.rules.specs.declared.Answer.TheVariants.{Done, Refused}
+use Rattle.std.specs.Prelude.{Ok, Err}
+use Rattle.rules.specs.Answers.{Answer}
 use Rattle.rules.specs.declared.Refusal.{Refusal}
 use Rattle.rules.specs.Loops.{any_of, has}
 use Rattle.rules.specs.Numbers.{outside}
@@ -58,11 +58,11 @@ module _ (dimension n lanes graph w : ℕ) (roots : List ℕ) (query k results b
   later =
       row4 (outside 1 64 w ∷ outside 1 64 k ∷ []) ∷ row6 (lengths n graph w k results bits words floats) ∷ row7 n roots ∷ row8 dimension query ∷ []
 
-  pub by_game : {a : Answer} {r : Refusal} → decision_of a ≡ decide (game_rows 4096 dimension n lanes) → a ≡ Refused r → decision_of a ≡ decide rows
+  pub by_game : {a : Answer} {r : Refusal} → decision_of a ≡ decide (game_rows 4096 dimension n lanes) → a ≡ Err r → decision_of a ≡ decide rows
   unfolding search_rows decision_of
   by_game {a} {r} e f = by_answer (game_rows 4096 dimension n lanes) later e f
 
-  module _ {a : Answer} (e : decision_of a ≡ decide (game_rows 4096 dimension n lanes)) (f : a ≡ Done) where
+  module _ {a : Answer} (e : decision_of a ≡ decide (game_rows 4096 dimension n lanes)) (f : a ≡ (Ok tt)) where
     past_game : decide rows ≡ decide later
     unfolding search_rows decision_of
     past_game = past_answer (game_rows 4096 dimension n lanes) later e f
@@ -89,13 +89,13 @@ module _ (dimension n lanes graph w : ℕ) (roots : List ℕ) (query k results b
         unfolding row6
         past_lengths = past_params ∙ left (row6 (lengths n graph w k results bits words floats)) (row7 n roots ∷ row8 dimension query ∷ []) l
 
-        pub by_roots : {b : Answer} {r : Refusal} → decision_of b ≡ decide (row7 n roots ∷ []) → b ≡ Refused r → decision_of b ≡ decide rows
+        pub by_roots : {b : Answer} {r : Refusal} → decision_of b ≡ decide (row7 n roots ∷ []) → b ≡ Err r → decision_of b ≡ decide rows
         unfolding decision_of
         by_roots {b} {r} g h =
             let d : decide (row7 n roots ∷ []) ≡ refused (code_of r) = sym g ∙ ap decision_of h in
             ap decision_of h ∙ sym (past_lengths ∙ stops (row7 n roots) (row8 dimension query ∷ []) (code_of r) d)
 
-        module _ {b : Answer} (g : decision_of b ≡ decide (row7 n roots ∷ [])) (h : b ≡ Done) where
+        module _ {b : Answer} (g : decision_of b ≡ decide (row7 n roots ∷ [])) (h : b ≡ (Ok tt)) where
           past_roots : decide rows ≡ decide (row8 dimension query ∷ [])
           unfolding decision_of
           past_roots = past_lengths ∙ goes_on (row7 n roots) (row8 dimension query ∷ []) (sym g ∙ ap decision_of h)

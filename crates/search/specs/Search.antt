@@ -1,6 +1,6 @@
 -- What the entry `search` is lent, and what a search counts on once the table has passed. Assumes nothing.
 use Rattle.std.specs.Prelude.{◌≡◌, List, ℕ, ◌+◌, ◌*◌, ◌≤◌, length, Float}
-use Rattle.rules.specs.declared.SearchAnswer.{SearchAnswer}
+use Rattle.rules.specs.Answers.{SearchAnswer}
 use Rattle.rules.specs.SearchCall.{SearchLent, search_left, search_rule, search_work}
 use Rattle.walk.specs.Walks.{Roots}
 

@@ -12,8 +12,8 @@ ghost use Rattle.buffers.specs.Area.{area};
 ghost use Rattle.expand.specs.Areas.{Room, best_at, best_in};
 ghost use Rattle.search.specs.Search.{lent, Ready, Worked, Searched};
 
-use expand::Counted;
-use rules::{Answer, NodeId, Refusal, SearchAnswer};
+use metrics::{Asked, Counters};
+use rules::{NodeId, Refusal, SearchCounts};
 
 /// Row 6: whether a buffer has the wrong length.
 fn wrong_buffers(
@@ -59,31 +59,29 @@ fn judge(
     bits: usize,
     words: usize,
     floats: usize,
-) -> Answer
+) -> Result<(), Refusal>
     ensures { decision_of result ≡ decide (search_rows dimension n (length lanes.now) graph index_size roots.now (length query.now) k results bits (scratch words floats)) }
 {
-    let g = table::game(dimension, 4096, n, lanes.len());
-    let Answer::Done = g else {
-        return g;
-    };
+    table::game(dimension, 4096, n, lanes.len())?;
     if table::outside(1, 64, index_size) {
-        return Answer::Refused(Refusal::Parameter);
+        return Err(Refusal::Parameter);
     }
     if table::outside(1, 64, k) {
-        return Answer::Refused(Refusal::Parameter);
+        return Err(Refusal::Parameter);
     }
     if wrong_buffers(n, graph, index_size, k, results, bits, words, floats) {
-        return Answer::Refused(Refusal::Buffer);
+        return Err(Refusal::Buffer);
     }
-    let r = table::roots(n, roots);
-    let Answer::Done = r else {
-        return r;
+    table::roots(n, roots)?;
+    let counters = Counters {
+        lanes,
+        dimension,
+        n,
     };
-    let some = metrics::lanes_of(lanes, dimension, NodeId(0));
-    if metrics::same_dimension(query, some) {
-        return Answer::Done;
+    if metrics::same_dimension(query, counters.lanes_of(NodeId(0))) {
+        return Ok(());
     }
-    Answer::Refused(Refusal::Query)
+    Err(Refusal::Query)
 }
 
 /// Writes the best set to the results: its nodes, and its distances by their bits.
@@ -103,43 +101,39 @@ fn give(
 {
     let from = n + n;
     let to = from + 64;
-    buffers::copy_words(m, &words[from..to], result_nodes);
+    buffers::copy_front(m, &words[from..to], result_nodes);
     buffers::copy_bits(m, &floats[from..to], result_bits);
 }
 
 /// The walk and its answer, once no row of the table holds.
 fn work(
-    dimension: usize,
-    n: usize,
-    lanes: &[f32],
+    asked: Asked<'_, '_>,
     graph: &[u32],
     index_size: usize,
     roots: &[u32],
-    query: &[f32],
     k: usize,
     result_nodes: &mut [u32],
     result_bits: &mut [u32],
     scratch_u: &mut [u32],
     scratch_f: &mut [f32],
-) -> SearchAnswer
-    requires { Ready (lent dimension n lanes.now graph.now index_size roots.now query.now k result_nodes.old result_bits.old scratch_u.old scratch_f.old) }
-    ensures { Worked (lent dimension n lanes.now graph.now index_size roots.now query.now k result_nodes.old result_bits.old scratch_u.old scratch_f.old) result result_nodes.new result_bits.new scratch_u.new scratch_f.new }
+) -> Result<SearchCounts, Refusal>
+    requires { Ready (lent asked.counters.dimension asked.counters.n asked.counters.lanes.now graph.now index_size roots.now asked.query.now k result_nodes.old result_bits.old scratch_u.old scratch_f.old) }
+    ensures { Worked (lent asked.entry.counters.dimension asked.entry.counters.n asked.entry.counters.lanes.now graph.now index_size roots.now asked.entry.query.now k result_nodes.old result_bits.old scratch_u.old scratch_f.old) result result_nodes.new result_bits.new scratch_u.new scratch_f.new }
 {
-    let r = walk::walk(
-        lanes, dimension, n, query, graph, index_size, roots, k, scratch_u, scratch_f,
-    );
+    let n = asked.counters.n;
+    let r = walk::walk(asked, graph, index_size, roots, k, scratch_u, scratch_f);
     match r {
-        Counted::Unfit(v) => {
-            buffers::zero_words(scratch_u);
-            buffers::zero_floats(scratch_f);
-            SearchAnswer::Refused(Refusal::Pair(v, NodeId(n as u32)))
+        Err(v) => {
+            scratch_u.fill(0);
+            scratch_f.fill(0.0);
+            Err(Refusal::Pair(v, NodeId(n as u32)))
         }
-        Counted::Count(takings) => {
-            let m = table::fewer(k, roots.len());
+        Ok(takings) => {
+            let m = k.min(roots.len());
             give(n, m, scratch_u, scratch_f, result_nodes, result_bits);
-            buffers::zero_words(scratch_u);
-            buffers::zero_floats(scratch_f);
-            SearchAnswer::Found { m, takings }
+            scratch_u.fill(0);
+            scratch_f.fill(0.0);
+            Ok(SearchCounts { m, takings })
         }
     }
 }
@@ -159,10 +153,10 @@ pub fn search(
     result_bits: &mut [u32],
     scratch_u: &mut [u32],
     scratch_f: &mut [f32],
-) -> SearchAnswer
+) -> Result<SearchCounts, Refusal>
     ensures { Searched (lent dimension n lanes.now graph.now index_size roots.now query.now k result_nodes.old result_bits.old scratch_u.old scratch_f.old) result result_nodes.new result_bits.new scratch_u.new scratch_f.new }
 {
-    let v = judge(
+    judge(
         dimension,
         n,
         lanes,
@@ -175,22 +169,21 @@ pub fn search(
         result_bits.len(),
         scratch_u.len(),
         scratch_f.len(),
-    );
-    match v {
-        Answer::Refused(r) => SearchAnswer::Refused(r),
-        Answer::Done => work(
-            dimension,
-            n,
-            lanes,
-            graph,
-            index_size,
-            roots,
-            query,
-            k,
-            result_nodes,
-            result_bits,
-            scratch_u,
-            scratch_f,
-        ),
-    }
+    )?;
+    let counters = Counters {
+        lanes,
+        dimension,
+        n,
+    };
+    work(
+        Asked { counters, query },
+        graph,
+        index_size,
+        roots,
+        k,
+        result_nodes,
+        result_bits,
+        scratch_u,
+        scratch_f,
+    )
 }

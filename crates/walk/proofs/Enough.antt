@@ -7,7 +7,7 @@ use native.Mathlib.Omega.{arith}
 use borrow.Author.Tests.{ltb-true, ltb-false}
 use lib.Dec.{ltb}
 use lib.ListN.{length, take, get_or, replicate, length-replicate, length-take}
-use Rattle.rules.specs.declared.Distance.{Distance}
+use Rattle.rules.specs.Answers.{Distance}
 use Rattle.rules.specs.declared.Neighbor.{Neighbor}
 use Rattle.rules.specs.Lists.{nodes_of}
 use Rattle.rules.specs.Rows.{graph_row}

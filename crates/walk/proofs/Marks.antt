@@ -8,7 +8,7 @@ use borrow.Author.Tests.{eqb-true, eqb-false}
 use lib.Dec.{eqb}
 use lib.ListN.{length, take, get_or, set, replicate, length-replicate, get_or-replicate}
 use lib.Seq.{take-suc, take-length, get_or-set_same, get_or-set_other}
-use Rattle.rules.specs.declared.Distance.{Distance}
+use Rattle.rules.specs.Answers.{Distance}
 use Rattle.rules.specs.declared.Neighbor.{Neighbor}
 use Rattle.rules.specs.Loops.{through, has}
 use Rattle.rules.specs.Lists.{nodes_of}

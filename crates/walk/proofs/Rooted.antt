@@ -10,8 +10,8 @@ use lib.Dec.{ltb}
 use lib.ListN.{length, take, drop, get_or, drop_of_length-le}
 use lib.Seq.{drop-cons, get_or-take, get_or-drop}
 use lib.Ieee.{Float, nan, lt}
-use Rattle.rules.specs.declared.Distance.{Distance}
-use Rattle.rules.specs.declared.Distance.TheVariants.{Fit, Unfit}
+use Rattle.std.specs.Prelude.{Ok, Err, Some, None}
+use Rattle.rules.specs.Answers.{Distance}
 use Rattle.rules.specs.declared.NodeId.{NodeId}
 use Rattle.rules.specs.declared.Neighbor.{Neighbor}
 use Rattle.rules.specs.Distance.{before}
@@ -24,8 +24,7 @@ use Rattle.neighbor.proofs.Order.{asymmetric}
 use Rattle.lists.specs.Ascending.{AllHoldable, Ascending}
 use Rattle.lists.proofs.Laws.{length-insert, take-insert, take_behind, holdable_at, holdable_insert, ascending-insert}
 use Rattle.lists.proofs.Slices.{length-entries, get_d_entries}
-use Rattle.expand.specs.declared.Counted.{Counted}
-use Rattle.expand.specs.declared.Counted.TheVariants as counted
+use Rattle.expand.specs.Steps.{Counted}
 use Rattle.buffers.specs.Area.{area}
 use Rattle.expand.specs.Areas.{found_at, found_in, Room}
 use Rattle.expand.specs.Steps.{works_near, entries_after, at_most, WorkedOut}
@@ -109,30 +108,30 @@ module _ {apart : ℕ → Distance} {n k : ℕ} {roots us₀ : List ℕ} {fs₀ 
   unfolding roots_found
   next_root d e h = rw (add-one, drop-cons roots i 0, e)
 
-  pub rooting_unfit : {far : Float} {us' : List ℕ} {fs' : List Float} {r : Counted} {u : NodeId} → i < length roots → r ≡ counted.Unfit u
+  pub rooting_unfit : {far : Float} {us' : List ℕ} {fs' : List Float} {r : Counted} {u : NodeId} → i < length roots → r ≡ Err u
       → WorkedOut far apart n (get_or roots i 0) len us fs us' fs' r → RootsFound apart n k roots us₀ fs₀ us' fs' r
   unfolding entries_after works_near works_out and_then RootsIn is_on
   rooting_unfit {far} {us'} {fs'} {r} {u} h e w =
-      let p : WorkedOut far apart n (get_or roots i 0) len us fs us' fs' (counted.Unfit u) = rw e at w in
+      let p : WorkedOut far apart n (get_or roots i 0) len us fs us' fs' (Err u) = rw e at w in
       rw e (record { found = go (apart (get_or roots i 0)) refl p.entries; words = p.kept.words ∙ inv.words; floats = p.kept.floats ∙ inv.floats })
     where
       go : (d : Distance) → apart (get_or roots i 0) ≡ d → unfit_at u.0 ≡ works_near far (get_or roots i 0) (found_in n us fs len) d → roots_found apart roots [] ≡ unfit_at u.0
-      go (Fit x) f q = absurd (true≢false (sym (ap is_on q)))
-      go Unfit f q = sym inv.left ∙ next_root Unfit f h ∙ sym q
+      go (Some x) f q = absurd (true≢false (sym (ap is_on q)))
+      go None f q = sym inv.left ∙ next_root None f h ∙ sym q
 
   pub rooting_more : {far : Float} {us' : List ℕ} {fs' : List Float} {r : Counted} {more : ℕ} → Room n us fs → Answers apart → 1 ≤ k → len ≤ 64 → i < length roots
-      → far ≡ bound n fs len k → r ≡ counted.Count more
+      → far ≡ bound n fs len k → r ≡ Ok more
       → WorkedOut far apart n (get_or roots i 0) len us fs us' fs' r → Rooting apart n k roots us₀ fs₀ us' fs' more (i + 1)
   unfolding entries_after works_near works_out and_then at_most is_on inner
   rooting_more {far} {us'} {fs'} {r} {more} room fine some short h bounded e w =
-      let p : WorkedOut far apart n (get_or roots i 0) len us fs us' fs' (counted.Count more) = rw e at w in
+      let p : WorkedOut far apart n (get_or roots i 0) len us fs us' fs' (Ok more) = rw e at w in
       go (apart (get_or roots i 0)) refl p.entries p
     where
       F : List Neighbor
       F = found_in n us fs len
 
-      next : (x : Float) (t : Bool) → lt far x ≡ t → apart (get_or roots i 0) ≡ Fit x → found_in n us' fs' more ≡ cond t F (insert (neighbor (get_or roots i 0) x) F)
-          → WorkedOut far apart n (get_or roots i 0) len us fs us' fs' (counted.Count more) → Rooting apart n k roots us₀ fs₀ us' fs' more (i + 1)
+      next : (x : Float) (t : Bool) → lt far x ≡ t → apart (get_or roots i 0) ≡ Some x → found_in n us' fs' more ≡ cond t F (insert (neighbor (get_or roots i 0) x) F)
+          → WorkedOut far apart n (get_or roots i 0) len us fs us' fs' (Ok more) → Rooting apart n k roots us₀ fs₀ us' fs' more (i + 1)
       next x t b f q p =
           let v = neighbor (get_or roots i 0) x in
           let X = fine (get_or roots i 0) x f in
@@ -143,7 +142,7 @@ module _ {apart : ℕ → Distance} {n k : ℕ} {roots us₀ : List ℕ} {fs₀ 
           let now : more ≤ len + 1 = p.few in
           record {
             sorted = insert v inv.sorted;
-            left = sym (next_root (Fit x) f h) ∙ inv.left;
+            left = sym (next_root (Some x) f h) ∙ inv.left;
             count = omega arith;
             near = cut ∙ near_now t b X ∙ ap (take k) (sym q);
             held = subst AllHoldable (sym q) (held_now t X);
@@ -167,11 +166,11 @@ module _ {apart : ℕ → Distance} {n k : ℕ} {roots us₀ : List ℕ} {fs₀ 
           rising_now false X = ascending-insert (neighbor (get_or roots i 0) x) F X inv.held inv.rising
 
       go : (d : Distance) → apart (get_or roots i 0) ≡ d → on (found_in n us' fs' more) ≡ works_near far (get_or roots i 0) F d
-          → WorkedOut far apart n (get_or roots i 0) len us fs us' fs' (counted.Count more) → Rooting apart n k roots us₀ fs₀ us' fs' more (i + 1)
-      go (Fit x) f q p = next x (lt far x) refl f (ap (inner F) q) p
-      go Unfit f q p = absurd (true≢false (ap is_on q))
+          → WorkedOut far apart n (get_or roots i 0) len us fs us' fs' (Ok more) → Rooting apart n k roots us₀ fs₀ us' fs' more (i + 1)
+      go (Some x) f q p = next x (lt far x) refl f (ap (inner F) q) p
+      go None f q p = absurd (true≢false (ap is_on q))
 
-  pub rooting_end : length roots ≤ i → RootsFound apart n k roots us₀ fs₀ us fs (counted.Count len)
+  pub rooting_end : length roots ≤ i → RootsFound apart n k roots us₀ fs₀ us fs (Ok len)
   unfolding roots_found RootsIn
   rooting_end h =
       let at = inv.at in

@@ -7,7 +7,8 @@ use borrow.Author.Tests.{lt-ltb, le-ltb}
 use lib.ListN.{length, take, drop, replicate, length-take, length-replicate, length-append, length-drop}
 use lib.Seq.{length-take-le, take_at, drop_at, drop-drop}
 use lib.Ieee.{Float}
-use Rattle.rules.specs.declared.Distance.{Distance}
+use Rattle.std.specs.Prelude.{Ok, Err}
+use Rattle.rules.specs.Answers.{Distance}
 use Rattle.rules.specs.declared.NodeId.{NodeId}
 use Rattle.rules.specs.declared.Neighbor.{Neighbor}
 use Rattle.rules.specs.Loops.{through}
@@ -16,8 +17,7 @@ use Rattle.rules.specs.Rows.{graph_row}
 use Rattle.rules.specs.Search.{Walk, Going, on, and_then, mark, roots_found, started, expand, walk, search_of}
 use Rattle.lists.proofs.Laws.{take_min, holdable_take, ascending-take}
 use Rattle.lists.proofs.Slices.{take-entries, length-entries}
-use Rattle.expand.specs.declared.Counted.{Counted}
-use Rattle.expand.specs.declared.Counted.TheVariants as counted
+use Rattle.expand.specs.Steps.{Counted}
 use Rattle.buffers.specs.Area.{area}
 use Rattle.lists.specs.Ascending.{AllHoldable, Ascending}
 use Rattle.expand.specs.Areas.{found_at, seen_in, queue_in, best_in, found_in, Room, BestSound}
@@ -73,8 +73,8 @@ cut_below n (suc k) [] b = tt
 cut_below n (suc k) (e ∷ es) b = (b.0, cut_below n k es b.1)
 
 module _ {apart : ℕ → Distance} {n k : ℕ} {roots us us₁ us₂ us₃ : List ℕ} {fs fs₁ fs₃ : List Float} {count m : ℕ} (fine : Roots n roots) where
-  pub started_in : RootsFound apart n k roots us fs us₁ fs₁ (counted.Count count) → Marked n roots us₁ us₂ → m ≡ min k count → Entered n m us₂ fs₁ us₃ fs₃ → Room n us fs
-      → StartedIn apart n k roots us fs us₃ fs₃ (counted.Count m)
+  pub started_in : RootsFound apart n k roots us fs us₁ fs₁ (Ok count) → Marked n roots us₁ us₂ → m ≡ min k count → Entered n m us₂ fs₁ us₃ fs₃ → Room n us fs
+      → StartedIn apart n k roots us fs us₃ fs₃ (Ok m)
   unfolding RootsIn StartsIn started Whenever
   started_in r d least e room =
       let s = r.found in
@@ -121,23 +121,23 @@ module _ {apart : ℕ → Distance} {n k : ℕ} {roots us us₁ us₂ us₃ : Li
       }
 
 -- no more are found than there are roots
-pub counted-few : {apart : ℕ → Distance} {n k : ℕ} {roots us us₁ : List ℕ} {fs fs₁ : List Float} {r : Counted} {count : ℕ} → r ≡ counted.Count count → RootsFound apart n k roots us fs us₁ fs₁ r → count ≤ length roots
+pub counted-few : {apart : ℕ → Distance} {n k : ℕ} {roots us us₁ : List ℕ} {fs fs₁ : List Float} {r : Counted} {count : ℕ} → r ≡ Ok count → RootsFound apart n k roots us fs us₁ fs₁ r → count ≤ length roots
 unfolding RootsIn
 counted-few {apart} {n} {k} {roots} {us} {us₁} {fs} {fs₁} e p =
-    let q : RootsFound apart n k roots us fs us₁ fs₁ (counted.Count _) = rw e at p in q.found.6
+    let q : RootsFound apart n k roots us fs us₁ fs₁ (Ok _) = rw e at p in q.found.6
 
 -- what the walk goes on from
-pub started-count : {apart : ℕ → Distance} {n k : ℕ} {roots us us₁ : List ℕ} {fs fs₁ : List Float} {r : Counted} {m : ℕ} → r ≡ counted.Count m → StartedIn apart n k roots us fs us₁ fs₁ r
+pub started-count : {apart : ℕ → Distance} {n k : ℕ} {roots us us₁ : List ℕ} {fs fs₁ : List Float} {r : Counted} {m : ℕ} → r ≡ Ok m → StartedIn apart n k roots us fs us₁ fs₁ r
     → QueueSound n us₁ m × (m ≡ min k (length roots)) × BestSound n us₁ fs₁ m
 unfolding StartsIn
 started-count {apart} {n} {k} {roots} {us} {us₁} {fs} {fs₁} e p =
-    let q : StartedIn apart n k roots us fs us₁ fs₁ (counted.Count _) = rw e at p in (q.starts.3, q.starts.4, q.starts.5)
+    let q : StartedIn apart n k roots us fs us₁ fs₁ (Ok _) = rw e at p in (q.starts.3, q.starts.4, q.starts.5)
 
-pub started-unfit : {apart : ℕ → Distance} {n k : ℕ} {roots us us₁ : List ℕ} {fs fs₁ : List Float} {r : Counted} {v : NodeId} → r ≡ counted.Unfit v
+pub started-unfit : {apart : ℕ → Distance} {n k : ℕ} {roots us us₁ : List ℕ} {fs fs₁ : List Float} {r : Counted} {v : NodeId} → r ≡ Err v
     → RootsFound apart n k roots us fs us₁ fs₁ r → StartedIn apart n k roots us fs us₁ fs₁ r
 unfolding RootsIn StartsIn
 started-unfit {apart} {n} {k} {roots} {us} {us₁} {fs} {fs₁} {r} {v} e p =
-    let q : RootsFound apart n k roots us fs us₁ fs₁ (counted.Unfit v) = rw e at p in
+    let q : RootsFound apart n k roots us fs us₁ fs₁ (Err v) = rw e at p in
     rw e (record { starts = q.found; words = q.words; floats = q.floats })
 
 -- ---- the whole walk
@@ -200,11 +200,11 @@ module _ {apart : ℕ → Distance} {n : ℕ} (graph : List ℕ) (width : ℕ) {
       ap (λ (k : ℕ). walk apart (graph_row n width graph) k (walk_in n us fs m tail takings w)) s
       ∙ walk_more apart (graph_row n width graph) (n - (takings + 1)) (walk_in n us fs m tail takings w) (omega arith)
 
-  pub walking_more : {us' : List ℕ} {fs' : List Float} {r : Counted} {end : ℕ} → takings < tail → r ≡ counted.Count end
+  pub walking_more : {us' : List ℕ} {fs' : List Float} {r : Counted} {end : ℕ} → takings < tail → r ≡ Ok end
       → Expanded apart n graph width m takings tail us fs us' fs' r → Walking apart (graph_row n width graph) n m us₀ fs₀ us' fs' (takings + 1) end
   unfolding walk_after SoundAfter BestAfter and_then
   walking_more {us'} {fs'} {r} {end} h e p =
-      let q : Expanded apart n graph width m takings tail us fs us' fs' (counted.Count end) = rw e at p in
+      let q : Expanded apart n graph width m takings tail us fs us' fs' (Ok end) = rw e at p in
       let short = tail_short in
       record {
         left =
@@ -221,11 +221,11 @@ module _ {apart : ℕ → Distance} {n : ℕ} (graph : List ℕ) (width : ℕ) {
         floats = q.floats ∙ inv.floats;
       }
 
-  pub walking_unfit : {us' : List ℕ} {fs' : List Float} {r : Counted} {v : NodeId} → takings < tail → r ≡ counted.Unfit v
+  pub walking_unfit : {us' : List ℕ} {fs' : List Float} {r : Counted} {v : NodeId} → takings < tail → r ≡ Err v
       → Expanded apart n graph width m takings tail us fs us' fs' r → (w₀ : ℕ) → WalkedIn (walk apart (graph_row n width graph) n (walk_in n us₀ fs₀ m m 0 w₀)) n m us₀ fs₀ us' fs' r
   unfolding walk_after EndsIn and_then
   walking_unfit {us'} {fs'} {r} {v} h e p w₀ =
-      let q : Expanded apart n graph width m takings tail us fs us' fs' (counted.Unfit v) = rw e at p in
+      let q : Expanded apart n graph width m takings tail us fs us' fs' (Err v) = rw e at p in
       let was = inv.left w₀ in
       let now = q.after was.0 in
       rw e
@@ -235,7 +235,7 @@ module _ {apart : ℕ → Distance} {n : ℕ} (graph : List ℕ) (width : ℕ) {
         floats = q.floats ∙ inv.floats;
       })
 
-  pub walking_end : tail ≤ takings → (w₀ : ℕ) → WalkedIn (walk apart (graph_row n width graph) n (walk_in n us₀ fs₀ m m 0 w₀)) n m us₀ fs₀ us fs (counted.Count takings)
+  pub walking_end : tail ≤ takings → (w₀ : ℕ) → WalkedIn (walk apart (graph_row n width graph) n (walk_in n us₀ fs₀ m m 0 w₀)) n m us₀ fs₀ us fs (Ok takings)
   unfolding EndsIn
   walking_end h w₀ =
       let was = inv.left w₀ in
@@ -254,10 +254,10 @@ module _ {apart : ℕ → Distance} {n : ℕ} (graph : List ℕ) (width : ℕ) {
 -- ---- the start and then the walk
 
 module _ (apart : ℕ → Distance) (rows : ℕ → List ℕ) (n k : ℕ) (roots : List ℕ) {us us₁ : List ℕ} {fs fs₁ : List Float} {r : Counted} where
-  pub walked_unfit : {v : NodeId} → r ≡ counted.Unfit v → StartedIn apart n k roots us fs us₁ fs₁ r → WalkedIn (search_of apart rows n k roots) n (min k (length roots)) us fs us₁ fs₁ r
+  pub walked_unfit : {v : NodeId} → r ≡ Err v → StartedIn apart n k roots us fs us₁ fs₁ r → WalkedIn (search_of apart rows n k roots) n (min k (length roots)) us fs us₁ fs₁ r
   unfolding StartsIn EndsIn search_of and_then
   walked_unfit {v} e p =
-      let q : StartedIn apart n k roots us fs us₁ fs₁ (counted.Unfit v) = rw e at p in
+      let q : StartedIn apart n k roots us fs us₁ fs₁ (Err v) = rw e at p in
       rw e
       (record {
         ends = ap (λ (g : Going (List Neighbor)). and_then g (λ (sorted : List Neighbor). walk apart rows n (started n k roots sorted))) q.starts;
@@ -265,7 +265,7 @@ module _ (apart : ℕ → Distance) (rows : ℕ → List ℕ) (n k : ℕ) (roots
         floats = q.floats;
       })
 
-  pub walked : {m : ℕ} {us₂ : List ℕ} {fs₂ : List Float} → StartedIn apart n k roots us fs us₁ fs₁ (counted.Count m) → ((w : ℕ) → WalkedIn (walk apart rows n (walk_in n us₁ fs₁ m m 0 w)) n m us₁ fs₁ us₂ fs₂ r)
+  pub walked : {m : ℕ} {us₂ : List ℕ} {fs₂ : List Float} → StartedIn apart n k roots us fs us₁ fs₁ (Ok m) → ((w : ℕ) → WalkedIn (walk apart rows n (walk_in n us₁ fs₁ m m 0 w)) n m us₁ fs₁ us₂ fs₂ r)
       → WalkedIn (search_of apart rows n k roots) n (min k (length roots)) us fs us₂ fs₂ r
   unfolding StartsIn search_of and_then
   walked {m} {us₂} {fs₂} p go =

@@ -3,15 +3,14 @@
 
 ghost use Rattle.std.specs.Prelude.{◌≡◌, ℕ, ◌+◌, ◌≤◌, ◌<◌, min, length, get_or};
 ghost use Rattle.rules.specs.Loops.{through};
-ghost use Rattle.rules.specs.Distance.{query_apart};
+ghost use Rattle.metrics.specs.Counters.{asked_apart};
 ghost use Rattle.rules.specs.Rows.{graph_row};
 ghost use Rattle.rules.specs.Search.{mark, walk, search_of};
 ghost use Rattle.expand.specs.Areas.{Room, BestSound};
-ghost use Rattle.expand.specs.Steps.{Lanes};
 ghost use Rattle.expand.specs.Queue.{Rows, QueueSound, walk_in};
 ghost use Rattle.walk.specs.Walks.{Roots, bound, RootsFound, Marked, Entered, StartedIn, WalkedIn};
 
-use expand::Counted;
+use metrics::Asked;
 use rules::NodeId;
 
 /// The distance beyond which no root enters: that of the k-th found so far, and the mark of an empty slot where there are fewer.
@@ -28,44 +27,25 @@ fn bound(n: usize, floats: &[f32], len: usize, k: usize) -> f32
 
 /// Works the roots out in the given order, sorted among the entries found; those beyond the k-th of them are passed over.
 fn roots_found(
-    lanes: &[f32],
-    dimension: usize,
-    n: usize,
-    query: &[f32],
+    asked: Asked<'_, '_>,
     roots: &[u32],
     k: usize,
     words: &mut [u32],
     floats: &mut [f32],
-) -> Counted
-    requires lanes { Lanes lanes.now dimension n query.now }
-    requires room { Room n words.old floats.old }
-    requires roots { Roots n roots.now }
+) -> Result<usize, NodeId>
+    requires few { asked.counters.n ≤ 4096 }
+    requires room { Room asked.counters.n words.old floats.old }
+    requires roots { Roots asked.counters.n roots.now }
     requires le_k { 1 ≤ k }
-    ensures { RootsFound (query_apart lanes.now dimension query.now) n k roots.now words.old floats.old words.new floats.new result }
+    ensures { RootsFound (asked_apart asked.entry) asked.entry.counters.n k roots.now words.old floats.old words.new floats.new result }
 {
+    let n = asked.counters.n;
     let mut len: usize = 0;
-    let mut i: usize = 0;
-    while i < roots.len() {
-        let v = roots[i];
+    for &v in roots {
         let far = bound(n, floats, len, k);
-        let r = expand::work_out(
-            lanes,
-            dimension,
-            n,
-            query,
-            words,
-            floats,
-            len,
-            far,
-            NodeId(v),
-        );
-        let Counted::Count(more) = r else {
-            return r;
-        };
-        len = more;
-        i += 1;
+        len = expand::work_out(asked, words, floats, len, far, NodeId(v))?;
     }
-    Counted::Count(len)
+    Ok(len)
 }
 
 /// Marks every root as seen.
@@ -73,11 +53,8 @@ fn mark_roots(flags: &mut [u32], roots: &[u32])
     requires { (i : ℕ) → i < length roots.now → get_or roots.now i 0 < length flags.old }
     ensures { flags.new ≡ through mark roots.now flags.old }
 {
-    let mut i: usize = 0;
-    while i < roots.len() {
-        let v = roots[i] as usize;
-        flags[v] = 1;
-        i += 1;
+    for &v in roots {
+        flags[v as usize] = 1;
     }
 }
 
@@ -87,8 +64,7 @@ fn enter(n: usize, words: &mut [u32], floats: &mut [f32], m: usize)
     requires m_bound { (m ≤ 64) × (m ≤ n) }
     ensures { Entered n m words.old floats.old words.new floats.new }
 {
-    let mut i: usize = 0;
-    while i < m {
+    for i in 0..m {
         let from = n + n + 64 + i;
         let to = n + n + i;
         let v = words[from];
@@ -96,7 +72,6 @@ fn enter(n: usize, words: &mut [u32], floats: &mut [f32], m: usize)
         floats[to] = floats[from];
         let at = n + i;
         words[at] = v;
-        i += 1;
     }
 }
 
@@ -106,97 +81,75 @@ fn mark_all(n: usize, roots: &[u32], words: &mut [u32])
     requires n_in_bounds { n + n + 128 ≤ length words.old }
     ensures { Marked n roots.now words.old words.new }
 {
-    buffers::zero_words(&mut words[..n]);
+    words[..n].fill(0);
     mark_roots(&mut words[..n], roots);
 }
 
 /// Starts the walk: the roots sorted and seen, the first `k` of them in the best set and the queue; counts those.
 fn start(
-    lanes: &[f32],
-    dimension: usize,
-    n: usize,
-    query: &[f32],
+    asked: Asked<'_, '_>,
     roots: &[u32],
     k: usize,
     words: &mut [u32],
     floats: &mut [f32],
-) -> Counted
-    requires lanes { Lanes lanes.now dimension n query.now }
-    requires room { Room n words.old floats.old }
-    requires roots { Roots n roots.now }
+) -> Result<usize, NodeId>
+    requires few { asked.counters.n ≤ 4096 }
+    requires room { Room asked.counters.n words.old floats.old }
+    requires roots { Roots asked.counters.n roots.now }
     requires le_k { 1 ≤ k }
-    ensures { StartedIn (query_apart lanes.now dimension query.now) n k roots.now words.old floats.old words.new floats.new result }
+    ensures { StartedIn (asked_apart asked.entry) asked.entry.counters.n k roots.now words.old floats.old words.new floats.new result }
 {
-    let r = roots_found(lanes, dimension, n, query, roots, k, words, floats);
-    let Counted::Count(count) = r else {
-        return r;
-    };
+    let n = asked.counters.n;
+    let count = roots_found(asked, roots, k, words, floats)?;
     mark_all(n, roots, words);
-    let m = table::fewer(k, count);
+    let m = k.min(count);
     enter(n, words, floats, m);
-    Counted::Count(m)
+    Ok(m)
 }
 
 /// Expands the nodes of the queue, `m` of them at first, until none is left; counts the takings.
 fn go_on(
-    lanes: &[f32],
-    dimension: usize,
-    n: usize,
-    query: &[f32],
+    asked: Asked<'_, '_>,
     graph: &[u32],
     index_size: usize,
     words: &mut [u32],
     floats: &mut [f32],
     m: usize,
-) -> Counted
-    requires lanes { Lanes lanes.now dimension n query.now }
-    requires rows { Rows n graph.now index_size }
-    requires room { Room n words.old floats.old }
-    requires queue_sound { QueueSound n words.old m }
-    requires best_sound { BestSound n words.old floats.old m }
+) -> Result<usize, NodeId>
+    requires few { asked.counters.n ≤ 4096 }
+    requires rows { Rows asked.counters.n graph.now index_size }
+    requires room { Room asked.counters.n words.old floats.old }
+    requires queue_sound { QueueSound asked.counters.n words.old m }
+    requires best_sound { BestSound asked.counters.n words.old floats.old m }
     requires le_m { (1 ≤ m) × (m ≤ 64) }
-    ensures { (worked : ℕ) → WalkedIn (walk (query_apart lanes.now dimension query.now) (graph_row n index_size graph.now) n (walk_in n words.old floats.old m m 0 worked)) n m words.old floats.old words.new floats.new result }
+    ensures { (worked : ℕ) → WalkedIn (walk (asked_apart asked.entry) (graph_row asked.entry.counters.n index_size graph.now) asked.entry.counters.n (walk_in asked.entry.counters.n words.old floats.old m m 0 worked)) asked.entry.counters.n m words.old floats.old words.new floats.new result }
 {
     let mut takings: usize = 0;
     let mut tail = m;
     while takings < tail {
-        let r = expand::expand(
-            lanes, dimension, n, query, graph, index_size, words, floats, m, takings, tail,
-        );
-        let Counted::Count(end) = r else {
-            return r;
-        };
-        tail = end;
+        tail = expand::expand(asked, graph, index_size, words, floats, m, takings, tail)?;
         takings += 1;
     }
-    Counted::Count(takings)
+    Ok(takings)
 }
 
 /// The whole walk (hora's `search`): counts the takings, and leaves the best set in its area of scratch.
 pub fn walk(
-    lanes: &[f32],
-    dimension: usize,
-    n: usize,
-    query: &[f32],
+    asked: Asked<'_, '_>,
     graph: &[u32],
     index_size: usize,
     roots: &[u32],
     k: usize,
     words: &mut [u32],
     floats: &mut [f32],
-) -> Counted
-    requires lanes { Lanes lanes.now dimension n query.now }
-    requires rows { Rows n graph.now index_size }
-    requires roots { Roots n roots.now }
-    requires room { Room n words.old floats.old }
+) -> Result<usize, NodeId>
+    requires few { asked.counters.n ≤ 4096 }
+    requires rows { Rows asked.counters.n graph.now index_size }
+    requires roots { Roots asked.counters.n roots.now }
+    requires room { Room asked.counters.n words.old floats.old }
     requires le_k { 1 ≤ k }
-    ensures { WalkedIn (search_of (query_apart lanes.now dimension query.now) (graph_row n index_size graph.now) n k roots.now) n (min k (length roots.now)) words.old floats.old words.new floats.new result }
+    ensures { WalkedIn (search_of (asked_apart asked.entry) (graph_row asked.entry.counters.n index_size graph.now) asked.entry.counters.n k roots.now) asked.entry.counters.n (min k (length roots.now)) words.old floats.old words.new floats.new result }
 {
-    let r = start(lanes, dimension, n, query, roots, k, words, floats);
-    let Counted::Count(m) = r else {
-        return r;
-    };
-    go_on(
-        lanes, dimension, n, query, graph, index_size, words, floats, m,
-    )
+    let m = start(asked, roots, k, words, floats)?;
+    go_on(asked, graph, index_size, words, floats, m)
 }

@@ -7,9 +7,9 @@ pub link_all-requires : goal.link_all-requires
 link_all-requires c =
     let p = c.requires in
     let s = c.slots.ensures in
-    record { lanes_len = (p.lanes_long, slots-sound p s); room = slots-room p s refl }
+    record { within = slots-sound p s; room = slots-room p s refl }
 
 pub returns : goal.returns
 returns c =
     let linked = c.link_all in
-    worked c.requires c.slots.ensures linked.ensures c.finish.ensures linked.auto.pool_nodes linked.auto.dists c.zero_words.ensures c.zero_floats.ensures
+    worked c.requires c.slots.ensures linked.ensures c.finish.ensures linked.auto.pool_nodes linked.auto.dists (c.fill.ensures.after (λ y h. h)) (c.fill-2.ensures.after (λ y h. h))

@@ -1,5 +1,4 @@
 -- `exact::distances_to` meets its contract: the first `i` distances are written. Assumes nothing.
-use Prim.Native.Nat.{◌≤◌, ◌-◌}
 use mathlib.Core.List.{map}
 use lib.ListN.{take}
 use Rattle.rules.specs.Distance.{between}
@@ -7,7 +6,4 @@ use Rattle.buffers.proofs.Laws.{Written}
 use Rattle.exact.proofs.distances_to.Given as goal
 
 abbrev pub invariant-loop-i : goal.invariant-loop-i
-invariant-loop-i l = (l.i ≤ l.len) × Written (map (between l.lanes l.dimension l.q.0) (take l.len l.nodes)) l.initial.dists l.dists l.i
-
-abbrev pub decreases-loop-i : goal.decreases-loop-i
-decreases-loop-i l = l.len - l.i
+invariant-loop-i l = Written (map (between l.counters.lanes.now l.counters.dimension l.q.0) (take l.len l.nodes)) l.initial.dists l.dists l.i

@@ -1,7 +1,6 @@
 -- `exact::goes_behind` meets its contract: a list that is short, and a look at the last. Assumes nothing.
-use mathlib.Core.Path.{sym, ◌∙◌}
 use lib.Ieee.{nan}
-use Rattle.exact.proofs.Laws.{behind-short, behind-not, behind-last}
+use Rattle.exact.proofs.Laws.{behind-short, behind-looked}
 use Rattle.exact.proofs.goes_behind.Goals as goal
 
 pub returns-then-len-k : goal.returns-then-len-k
@@ -9,14 +8,8 @@ returns-then-len-k c =
     let pre = c.requires.le_k in
     behind-short _ _ _ _ _ pre.0 pre.1 pre.2 pre.3 c.if-len-k.true
 
-pub returns-then-precedes : goal.returns-then-precedes
-returns-then-precedes c =
-    let pre = c.requires.le_k in
-    behind-not _ _ _ _ _ pre.0 pre.1 pre.2 pre.3 0 nan c.if-len-k.false (sym c.precedes.ensures ∙ c.if-precedes.true)
-
 pub returns : goal.returns
 returns c =
     let pre = c.requires.le_k in
     let list = c.requires.holdable in
-    behind-last _ _ _ _ _ pre.0 pre.1 pre.2 pre.3 0 nan c.if-len-k.false list.0 list.1 list.2
-    (sym c.precedes.ensures ∙ c.if-precedes.false)
+    behind-looked _ _ _ _ _ pre.0 pre.1 pre.2 pre.3 0 nan c.if-len-k.false list.0 list.1 list.2 c.precedes.result c.precedes.ensures

@@ -11,7 +11,7 @@ returns-then-words-at-eq1 c =
 
 pub work_out-requires : goal.work_out-requires
 work_out-requires c =
-    record { lanes = c.requires.lanes; room = room-kept c.requires.room (simp length-set) refl; v_lt_n = c.requires.v_lt_n }
+    record { few = c.requires.few; room = room-kept c.requires.room (simp length-set) refl; v_lt_n = c.requires.v_lt_n }
 
 pub shape_of-words : goal.shape_of-words
 shape_of-words c =

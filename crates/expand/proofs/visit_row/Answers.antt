@@ -2,34 +2,37 @@
 use native.Mathlib.Omega.{arith}
 use Rattle.expand.proofs.Areas.{room-kept}
 use Rattle.expand.proofs.Steps.{visiting_none, visiting_end, visiting_stop, visiting_more, visiting_unfit}
+use mathlib.Core.Path.{refl}
+use Rattle.std.proofs.lemmas.Result.{err_from_is_err_and}
 use borrow.Author.Rules.{rules}
 use Rattle.expand.proofs.visit_row.Goals as goal
 
-pub loop-j-init : goal.loop-j-init
-loop-j-init c = visiting_none _ _ _ _ _ _
+pub loop-v-init : goal.loop-v-init
+loop-v-init c = visiting_none _ _ _ _ _ _
 
 pub overflow_cast-v : goal.overflow_cast-v
-overflow_cast-v c = omega (arith, c.type_inv.row c.loop-j.j)
+overflow_cast-v c = omega (arith, c.type_inv.row c.loop-v.v-index)
 
 pub returns-then-n-v : goal.returns-then-n-v
 returns-then-n-v c =
-    visiting_stop c.loop-j.invariant (search rules) c.requires.row_len_bound c.if-n-v.true
+    visiting_stop c.loop-v.invariant (search rules) c.requires.row_len_bound c.if-n-v.true
 
-pub visit-r-requires : goal.visit-r-requires
-visit-r-requires c =
-    let inv = c.loop-j.invariant in
+pub visit-requires : goal.visit-requires
+visit-requires c =
+    let inv = c.loop-v.invariant in
     let few = inv.few in
     let short = c.requires.row_len_bound in
-    record { lanes = c.requires.lanes; room = room-kept c.requires.room inv.kept.words inv.kept.floats; v_lt_n = (c.if-n-v.false, search rules) }
+    record { few = c.requires.few; room = room-kept c.requires.room inv.kept.words inv.kept.floats; v_lt_n = (c.if-n-v.false, search rules) }
 
-pub returns-in_default : goal.returns-in_default
-returns-in_default c =
-    visiting_unfit c.loop-j.invariant (search rules) c.if-n-v.false c.in_default.is c.visit-r.ensures
+pub returns-in_err-len : goal.returns-in_err-len
+returns-in_err-len c =
+    let p = err_from_is_err_and c.from_residual.result c.from_residual.ensures.1 in
+    rw (p.1, p.2) (visiting_unfit c.loop-v.invariant (search rules) c.if-n-v.false refl c.in_err-len.ensures)
 
-pub loop-j-preserved : goal.loop-j-preserved
-loop-j-preserved c =
-    visiting_more c.loop-j.invariant (search rules) c.if-n-v.false c.in-Count.is c.visit-r.ensures
+pub loop-v-preserved : goal.loop-v-preserved
+loop-v-preserved c =
+    visiting_more c.loop-v.invariant (search rules) c.if-n-v.false c.in_ok-len.was c.visit.ensures
 
 pub returns : goal.returns
 returns c =
-    visiting_end c.loop-j.invariant (search rules) c.requires.row_len_bound
+    visiting_end c.loop-v.invariant (search rules) c.requires.row_len_bound

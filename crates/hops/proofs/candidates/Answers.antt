@@ -8,15 +8,6 @@ two_hops-hopped-requires c =
     let pre = c.requires in
     record { linked = pre.linked; flagged = (flagged_none _ pre.flags_value.0, omega arith) }
 
-pub own_members-taken-requires : goal.own_members-taken-requires
-own_members-taken-requires c =
-    let pre = c.requires in
-    let took = c.two_hops-hopped.ensures in
-    let u = took.flags_long in
-    let v = took.out_long in
-    let within = took.within in
-    record { linked = (rw u pre.linked.0, omega arith); flagged = (took_flagged took, omega arith) }
-
 pub clear-requires : goal.clear-requires
 clear-requires c =
     let pre = c.requires in

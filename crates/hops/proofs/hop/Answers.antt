@@ -1,5 +1,4 @@
 -- `hops::hop` meets its contract: `q` itself, and another node. Assumes nothing.
-use native.Mathlib.Omega.{arith}
 use Rattle.hops.proofs.Laws.{hopped_self, hopped_other}
 use Rattle.hops.proofs.hop.Goals as goal
 
@@ -7,9 +6,6 @@ pub returns-then-v-q : goal.returns-then-v-q
 returns-then-v-q c =
     let pre = c.requires in
     hopped_self pre.0 pre.2 pre.3 c.if-v-q.true
-
-pub take_node-requires : goal.take_node-requires
-take_node-requires c = let pre = c.requires in (pre.0, pre.1, omega arith)
 
 pub returns : goal.returns
 returns c =

@@ -1,70 +1,30 @@
 -- What the search leaves of `hops::own_members`.
-use mathlib.Core.Path.{refl}
+use mathlib.Core.Path.{refl, ap, ◌∙◌}
 use native.Mathlib.Omega.{arith}
-use Rattle.hops.specs.Hops.{list_of}
-use Rattle.hops.proofs.Laws.{took_as, walked_none, walked_turn, walked_end, from-room, length-list, get_d_list, member_below}
-use borrow.Author.Rules.{rules}
+use lib.ListN.{length}
+use Rattle.hops.proofs.Laws.{took_as, walked_turn, walked_end, length-list, member_in}
 use Rattle.hops.proofs.own_members.Goals as goal
-
-pub overflow_mul-from : goal.overflow_mul-from
-overflow_mul-from c =
-    let pre = c.requires.linked in
-    let room = from-room pre.0 _ pre.1 in
-    let fewer = pre.0.fewer in
-    omega arith
-
-pub loop-i-init : goal.loop-i-init
-loop-i-init c = (search rules, walked_none c.requires.flagged.0 (omega arith))
-
-pub overflow_add-from : goal.overflow_add-from
-overflow_add-from c =
-    let pre = c.requires.linked in
-    let room = from-room pre.0 _ pre.1 in
-    let fewer = pre.0.fewer in
-    omega arith
-
-pub offset_bounds-lists-from : goal.offset_bounds-lists-from
-offset_bounds-lists-from c =
-    let pre = c.requires.linked in
-    let room = from-room pre.0 _ pre.1 in
-    let fewer = pre.0.fewer in
-    search rules
-
-pub bounds-lists-from : goal.bounds-lists-from
-bounds-lists-from c =
-    let pre = c.requires.linked in
-    let room = from-room pre.0 _ pre.1 in
-    let fewer = pre.0.fewer in
-    omega arith
 
 pub take_node-taken-requires : goal.take_node-taken-requires
 take_node-taken-requires c =
-    let held = c.loop-i.invariant.1.held in
+    let pre = c.requires.linked in
+    let held = c.loop-v.invariant.held in
     let u = held.flags_long in
     let v = held.out_long in
     let within = held.within in
-    let below = member_below c.requires.linked.0 _ c.requires.linked.1 c.loop-i.i 0 (search rules) in
+    let long = ap length c.list_of-v-items.ensures ∙ length-list pre.0 _ pre.1 in
+    let below = member_in pre.0 _ pre.1 c.list_of-v-items.ensures c.loop-v.v-index (omega arith) in
     (held.flagged, omega arith, omega arith)
 
-pub loop-i-preserved : goal.loop-i-preserved
-unfolding list_of
-loop-i-preserved c =
-    let pre = c.requires.linked in
-    let long = length-list pre.0 _ pre.1 in
-    let before = c.loop-i.invariant.1.held.within in
+pub loop-v-preserved : goal.loop-v-preserved
+loop-v-preserved c =
+    let before = c.loop-v.invariant.held.within in
     let within = c.take_node-taken.ensures.within in
-    (search rules, walked_turn c.loop-i.invariant.1 (omega arith) (get_d_list pre.0 _ pre.1 _ 0 (search rules)) (omega arith) c.take_node-taken.ensures)
-
-pub shape_of-flags : goal.shape_of-flags
-shape_of-flags c = c.loop-i.invariant.1.held.flags_long
-
-pub shape_of-out : goal.shape_of-out
-shape_of-out c = c.loop-i.invariant.1.held.out_long
+    walked_turn c.loop-v.invariant (omega arith) refl (omega arith) c.take_node-taken.ensures
 
 pub returns : goal.returns
-unfolding list_of
 returns c =
     let pre = c.requires.linked in
-    let long = length-list pre.0 _ pre.1 in
-    let within = c.loop-i.invariant.1.held.within in
-    took_as refl (omega arith) (walked_end c.loop-i.invariant.1 (omega arith))
+    let long = ap length c.list_of-v-items.ensures ∙ length-list pre.0 _ pre.1 in
+    let within = c.loop-v.invariant.held.within in
+    rw (← c.list_of-v-items.ensures) (took_as refl (omega arith) (walked_end c.loop-v.invariant (omega arith)))

@@ -1,67 +1,13 @@
 -- What the search leaves of `hops::two_hops`.
+use mathlib.Core.Path.{refl}
 use native.Mathlib.Omega.{arith}
 use Rattle.rules.specs.Build.{two_hops}
-use Rattle.hops.specs.Hops.{list_of}
-use Rattle.hops.proofs.Laws.{walked_none, walked_turn, walked_end, from-room, length-list, get_d_list, member_below}
-use borrow.Author.Rules.{rules}
+use Rattle.hops.proofs.Laws.{walked_turn, walked_end}
 use Rattle.hops.proofs.two_hops.Goals as goal
 
-pub overflow_mul-from : goal.overflow_mul-from
-overflow_mul-from c =
-    let pre = c.requires.linked in
-    let room = from-room pre.0 _ pre.1 in
-    let fewer = pre.0.fewer in
-    omega arith
-
-pub loop-i-init : goal.loop-i-init
-loop-i-init c = (search rules, walked_none c.requires.flagged.0 (omega arith))
-
-pub overflow_add-member : goal.overflow_add-member
-overflow_add-member c =
-    let pre = c.requires.linked in
-    let room = from-room pre.0 _ pre.1 in
-    let fewer = pre.0.fewer in
-    omega arith
-
-pub offset_bounds-lists-from : goal.offset_bounds-lists-from
-offset_bounds-lists-from c =
-    let pre = c.requires.linked in
-    let room = from-room pre.0 _ pre.1 in
-    let fewer = pre.0.fewer in
-    search rules
-
-pub bounds-lists-from : goal.bounds-lists-from
-bounds-lists-from c =
-    let pre = c.requires.linked in
-    let room = from-room pre.0 _ pre.1 in
-    let fewer = pre.0.fewer in
-    omega arith
-
-pub member_hops-taken-requires : goal.member_hops-taken-requires
-member_hops-taken-requires c =
-    let pre = c.requires in
-    let held = c.loop-i.invariant.1.held in
-    let u = held.flags_long in
-    let v = held.out_long in
-    let below = member_below pre.linked.0 _ pre.linked.1 c.loop-i.i 0 (search rules) in
-    record { linked = (rw u pre.linked.0, omega arith); flagged = (held.flagged, held.within, omega arith) }
-
-pub loop-i-preserved : goal.loop-i-preserved
-unfolding list_of
-loop-i-preserved c =
-    let pre = c.requires.linked in
-    let long = length-list pre.0 _ pre.1 in
-    (search rules, walked_turn c.loop-i.invariant.1 (omega arith) (get_d_list pre.0 _ pre.1 _ 0 (search rules)) c.member_hops-taken.ensures.within c.member_hops-taken.ensures)
-
-pub shape_of-flags : goal.shape_of-flags
-shape_of-flags c = c.loop-i.invariant.1.held.flags_long
-
-pub shape_of-out : goal.shape_of-out
-shape_of-out c = c.loop-i.invariant.1.held.out_long
+pub loop-v-preserved : goal.loop-v-preserved
+loop-v-preserved c = walked_turn c.loop-v.invariant (omega arith) refl c.member_hops-taken.ensures.within c.member_hops-taken.ensures
 
 pub returns : goal.returns
-unfolding two_hops list_of
-returns c =
-    let pre = c.requires.linked in
-    let long = length-list pre.0 _ pre.1 in
-    walked_end c.loop-i.invariant.1 (omega arith)
+unfolding two_hops
+returns c = rw (← c.list_of-v-items.ensures) (walked_end c.loop-v.invariant (omega arith))

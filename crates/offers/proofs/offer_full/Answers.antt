@@ -8,17 +8,17 @@ pub choose-kept-requires : goal.choose-kept-requires
 choose-kept-requires c =
     let pre = c.requires in
     record {
-      lanes_len = (pre.lanes_len.0, pool_below c.args.w c.args.nodes.now c.args.dists.now c.args.offer c.gather.ensures c.args.n pre.lanes_len.2 pre.lanes_len.1);
+      within = (pool_below c.args.w c.args.nodes.now c.args.dists.now c.args.offer c.gather.ensures c.args.counters.n pre.within.1 pre.within.0);
       len_in_bounds = search rules;
       index_size_in_bounds = search rules;
     }
 
-pub returns-then-w-kept : goal.returns-then-w-kept
-returns-then-w-kept c =
+pub returns-else-kept-w : goal.returns-else-kept-w
+returns-else-kept-w c =
     let row = c.requires.row in
-    full_all c.args.w c.args.nodes.now c.args.dists.now c.args.offer c.gather.ensures (between c.args.lanes.now c.args.dimension) c.args.threshold c.choose-kept.ensures row.nodes row.dists (search rules)
+    full_all c.args.w c.args.nodes.now c.args.dists.now c.args.offer c.gather.ensures (between c.args.counters.lanes.now c.args.counters.dimension) c.args.threshold c.choose-kept.ensures row.nodes row.dists (search rules)
 
-pub returns : goal.returns
-returns c =
+pub returns-then-kept-w : goal.returns-then-kept-w
+returns-then-kept-w c =
     let row = c.requires.row in
-    full_some c.args.w c.args.nodes.now c.args.dists.now c.args.offer c.gather.ensures (between c.args.lanes.now c.args.dimension) c.args.threshold c.choose-kept.ensures row.nodes row.dists (search rules)
+    full_some c.args.w c.args.nodes.now c.args.dists.now c.args.offer c.gather.ensures (between c.args.counters.lanes.now c.args.counters.dimension) c.args.threshold c.choose-kept.ensures row.nodes row.dists (search rules)

@@ -9,7 +9,7 @@ use Rattle.rules.specs.Build.{occludes}
 use Rattle.prune.proofs.by_four.Given as goal
 
 abbrev pub invariant-loop-i : goal.invariant-loop-i
-invariant-loop-i l = any_of (occludes (between l.lanes l.dimension) l.threshold l.equal_too l.p) (drop l.i (entries l.kept l.nodes l.dists)) ≡ any_of (occludes (between l.lanes l.dimension) l.threshold l.equal_too l.p) (entries l.kept l.nodes l.dists)
+invariant-loop-i l = any_of (occludes (between l.counters.lanes.now l.counters.dimension) l.threshold l.equal_too l.p) (drop l.i (entries l.kept l.nodes l.dists)) ≡ any_of (occludes (between l.counters.lanes.now l.counters.dimension) l.threshold l.equal_too l.p) (entries l.kept l.nodes l.dists)
 
 abbrev pub decreases-loop-i : goal.decreases-loop-i
 decreases-loop-i l = l.kept - l.i

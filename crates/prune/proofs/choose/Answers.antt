@@ -1,17 +1,11 @@
 -- What the search leaves of `prune::choose`.
 use lib.Ieee.{nan}
-use Rattle.prune.proofs.Laws.{below-entry, choosing_none, choosing_turn, choosing_full, choosing_end}
+use Rattle.prune.proofs.Laws.{below-is, below-entry, choosing_none, choosing_turn, choosing_full, choosing_end}
 use borrow.Author.Rules.{rules}
 use Rattle.prune.proofs.choose.Goals as goal
 
 pub loop-i-init : goal.loop-i-init
 loop-i-init c = choosing_none
-
-pub shape_of-nodes-then-index_size-kept : goal.shape_of-nodes-then-index_size-kept
-shape_of-nodes-then-index_size-kept c = c.loop-i.invariant.nodes_long
-
-pub shape_of-dists-then-index_size-kept : goal.shape_of-dists-then-index_size-kept
-shape_of-dists-then-index_size-kept c = c.loop-i.invariant.dists_long
 
 pub returns-then-index_size-kept : goal.returns-then-index_size-kept
 returns-then-index_size-kept c =
@@ -22,19 +16,13 @@ pub keep-kept-requires : goal.keep-kept-requires
 keep-kept-requires c =
     let pre = c.requires in
     let inv = c.loop-i.invariant in
-    let below = below-entry _ _ _ _ _ 0 pre.lanes_len.1 c.loop-i-test.true pre.len_in_bounds.0 pre.len_in_bounds.1 in
-    record { lanes_len = (pre.lanes_len.0, below, inv.below); kept_lt_index_size = search rules }
+    let below = below-is _ c.entry_at-p.ensures (below-entry _ _ _ _ _ 0 pre.within c.loop-i-test.true pre.len_in_bounds.0 pre.len_in_bounds.1) in
+    record { within = (below, inv.below); kept_lt_index_size = search rules }
 
 pub loop-i-preserved : goal.loop-i-preserved
 loop-i-preserved c =
     let pre = c.requires in
-    choosing_turn c.loop-i.invariant pre.len_in_bounds.0 pre.len_in_bounds.1 0 nan (search rules) pre.lanes_len.1 c.keep-kept.ensures
-
-pub shape_of-nodes : goal.shape_of-nodes
-shape_of-nodes c = c.loop-i.invariant.nodes_long
-
-pub shape_of-dists : goal.shape_of-dists
-shape_of-dists c = c.loop-i.invariant.dists_long
+    choosing_turn c.loop-i.invariant pre.len_in_bounds.0 pre.len_in_bounds.1 0 nan (search rules) pre.within (rw c.entry_at-p.ensures at c.keep-kept.ensures)
 
 pub returns : goal.returns
 returns c =

@@ -1,18 +1,14 @@
 -- What the search leaves of `prune::one_by_one`.
-use mathlib.Core.Path.{refl, sym, ◌∙◌}
+use mathlib.Core.Path.{sym, ◌∙◌}
 use lib.Ieee.{nan}
-use Rattle.metrics.proofs.Steps.{room}
 use Rattle.prune.proofs.Laws.{stood, below-entry, below-is, any_entry-here, any_entry_turn, any_entry-end}
 use borrow.Author.Rules.{rules}
 use Rattle.prune.proofs.one_by_one.Goals as goal
 
-pub loop-i-init : goal.loop-i-init
-loop-i-init c = refl
-
 pub between-djk-requires : goal.between-djk-requires
 between-djk-requires c =
     let pre = c.requires in
-    (room _ _ _ _ pre.lanes_len.0 pre.lanes_len.1, room _ _ _ _ pre.lanes_len.0 (below-is _ c.entry_at-r.ensures (below-entry _ _ _ _ _ 0 pre.lanes_len.2 (search rules) pre.kept_in_bounds.0 pre.kept_in_bounds.1)))
+    (pre.within.0, below-is _ c.entry_at-r.ensures (below-entry _ _ _ _ _ 0 pre.within.1 (search rules) pre.kept_in_bounds.0 pre.kept_in_bounds.1))
 
 pub returns-then-stands_before : goal.returns-then-stands_before
 returns-then-stands_before c =

@@ -1,5 +1,5 @@
 -- `pruned::prune_node` meets its contract: each step by its own. Assumes nothing.
-use mathlib.Core.Path.{sym, ◌∙◌, subst}
+use mathlib.Core.Path.{sym, subst}
 use Prim.Native.Nat.{ℕ, ◌<◌}
 use native.Mathlib.Omega.{arith}
 use Rattle.lists.specs.All.{All}
@@ -16,19 +16,13 @@ candidates-len-requires c =
     let hops = given.hops in
     let most = given.most in
     let nodes = room.nodes_long in
-    record { linked = (subst (Linked _ _ _) (sym room.long) (linked _ _ _ _ _ _ given), subst (λ (m : ℕ). c.args.q.0 < m) (sym room.long) p.lanes_len.1); flags_value = (room.clear, omega arith) }
+    record { linked = (subst (Linked _ _ _) (sym room.long) (linked _ _ _ _ _ _ given), subst (λ (m : ℕ). c.args.q.0 < m) (sym room.long) p.within); flags_value = (room.clear, omega arith) }
 
 pub distances_to-requires : goal.distances_to-requires
 distances_to-requires c =
     let p = c.requires in
     let r = c.candidates-len.ensures in
-    record { lanes_len = (p.lanes_len.0, p.lanes_len.1, subst (All (λ (v : ℕ). v < _)) (sym r.list) (candidates-below _ _ _ _ _ _ p.given _ p.lanes_len.1)); len_in_bounds = room_for p.given p.room r }
-
-pub sort-requires : goal.sort-requires
-sort-requires c =
-    let p = c.requires in
-    let fits = room_for p.given p.room c.candidates-len.ensures in
-    (fits.0, omega (arith, fits.1, c.distances_to.auto.dists))
+    record { within = (p.within, subst (All (λ (v : ℕ). v < _)) (sym r.list) (candidates-below _ _ _ _ _ _ p.given _ p.within)); len_in_bounds = room_for p.given p.room r }
 
 pub choose-kept-requires : goal.choose-kept-requires
 choose-kept-requires c =
@@ -37,17 +31,11 @@ choose-kept-requires c =
     let fits = room_for p.given p.room r in
     let measured = c.distances_to in
     let s = c.sort.ensures in
-    record { lanes_len = (p.lanes_len.0, ready p.given p.lanes_len.1 p.room r measured.ensures s); len_in_bounds = (omega (arith, fits.0, s.nodes_long), omega (arith, fits.1, measured.auto.dists, s.dists_long)); index_size_in_bounds = (omega arith, omega arith) }
-
-pub fill_row-requires : goal.fill_row-requires
-fill_row-requires c =
-    let p = c.requires in
-    let x = c.choose-kept.ensures in
-    (x.nodes_long ∙ p.row_nodes_len.0, x.dists_long ∙ p.row_nodes_len.1, x.within, p.given.few)
+    record { within = (ready p.given p.within p.room r measured.ensures s); len_in_bounds = (omega (arith, fits.0, s.nodes_long), omega (arith, fits.1, measured.auto.dists, s.dists_long)); index_size_in_bounds = (omega arith, omega arith) }
 
 pub returns : goal.returns
 returns c =
     let p = c.requires in
     let measured = c.distances_to in
-    row_is _ _ _ _ _ _ p.given _ p.lanes_len.1 _ _ p.room c.candidates-len.ensures measured.ensures measured.auto.dists
+    row_is _ _ _ _ _ _ p.given _ p.within _ _ p.room c.candidates-len.ensures measured.ensures measured.auto.dists
     c.sort.ensures c.choose-kept.ensures c.fill_row.ensures

@@ -1,22 +1,14 @@
--- What the search leaves of `rows::live_len`.
-use lib.Ieee.{nan}
-use Rattle.rules.specs.Rows.{is_empty}
-use Rattle.rows.proofs.Laws.{living_none, living_here, living_turn, living_end}
+-- `rows::live_len` meets its contract. Assumes nothing.
+use lib.Ieee.{Float, eq}
+use lib.ListN.{take}
+use Rattle.std.proofs.lemmas.Iterator.{YieldsList-from_slice}
+use Rattle.std.proofs.lemmas.Iterator.Search.{position_from_yields_List}
+use Rattle.rules.specs.Rows.{empty_distance}
+use Rattle.rows.proofs.Laws.{live_in}
 use borrow.Author.Rules.{rules}
 use Rattle.rows.proofs.live_len.Goals as goal
 
-pub loop-i-init : goal.loop-i-init
-loop-i-init c = living_none _ _
-
-pub returns-then-dists-i : goal.returns-then-dists-i
-unfolding is_empty
-returns-then-dists-i c =
-    living_here c.loop-i.invariant c.requires nan (search rules) (rw c.if-dists-i.true)
-
-pub loop-i-preserved : goal.loop-i-preserved
-unfolding is_empty
-loop-i-preserved c =
-    living_turn c.loop-i.invariant c.requires nan (search rules) (rw c.if-dists-i.false)
-
 pub returns : goal.returns
-returns c = living_end c.loop-i.invariant c.requires (search rules)
+returns c =
+    let first = position_from_yields_List (λ (d : Float). eq d empty_distance) _ _ _ c.position.ensures.ran (YieldsList-from_slice (take c.args.w c.args.dists.now) cc) (λ x b q k. search rules) in
+    rw c.unwrap_or.ensures (live_in c.requires first)

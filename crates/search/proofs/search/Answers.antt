@@ -1,4 +1,6 @@
 -- `search::search` meets its contract: a row that holds, or the work. Assumes nothing.
+use mathlib.Core.Path.{refl}
+use Rattle.std.proofs.lemmas.Result.{err_from_is_err_and}
 use Rattle.rules.specs.SearchCall.{SearchLent, search_table}
 use Rattle.search.specs.Search.{lent}
 use Rattle.search.proofs.Table.{ready}
@@ -13,14 +15,28 @@ lent_to start =
     lent a.dimension a.n a.lanes.now a.graph.now a.index_size a.roots.now a.query.now a.k a.result_nodes.now a.result_bits.now
     a.scratch_u.now a.scratch_f.now
 
+pub invariant_of-counters : goal.invariant_of-counters
+unfolding search_table
+invariant_of-counters c =
+    let r = ready _ (no_row (lent_to (goal.at.invariant_of-counters c).Start) c.judge.ensures c.in_ok-judge.was) in
+    record { whole = r.lanes_long }
+
+pub invariant_of-work : goal.invariant_of-work
+unfolding search_table
+invariant_of-work c =
+    let r = ready _ (no_row (lent_to (goal.at.invariant_of-work c).Start) c.judge.ensures c.in_ok-judge.was) in
+    record { fitting = r.query_long }
+
 pub work-requires : goal.work-requires
 unfolding search_table
-work-requires c = ready _ (no_row (lent_to (goal.at.work-requires c).Start) c.judge-v.ensures c.in-Done.is)
+work-requires c = ready _ (no_row (lent_to (goal.at.work-requires c).Start) c.judge.ensures c.in_ok-judge.was)
 
-pub returns-in-Refused : goal.returns-in-Refused
+pub returns-in_err-judge : goal.returns-in_err-judge
 unfolding search_table
-returns-in-Refused c = searched_refused _ c.judge-v.ensures c.in-Refused.is
+returns-in_err-judge c =
+    let p = err_from_is_err_and c.from_residual.result c.from_residual.ensures.1 in
+    rw (p.1, p.2) (searched_refused _ c.in_err-judge.ensures refl)
 
-pub returns-in-Done : goal.returns-in-Done
+pub returns : goal.returns
 unfolding search_table
-returns-in-Done c = searched_worked _ (no_row (lent_to (goal.at.returns-in-Done c).Start) c.judge-v.ensures c.in-Done.is) c.work.ensures
+returns c = searched_worked _ (no_row (lent_to (goal.at.returns c).Start) c.judge.ensures c.in_ok-judge.was) c.work.ensures

@@ -6,7 +6,7 @@ use Rattle.walk.proofs.Walking.{Walking}
 use Rattle.walk.proofs.go_on.Given as goal
 
 abbrev pub invariant-loop-takings : goal.invariant-loop-takings
-invariant-loop-takings l = Walking (query_apart l.lanes l.dimension l.query) (graph_row l.n l.index_size l.graph) l.n l.m l.initial.words l.initial.floats l.words l.floats l.takings l.tail
+invariant-loop-takings l = Walking (query_apart l.asked.counters.lanes.now l.asked.counters.dimension l.asked.query.now) (graph_row l.asked.counters.n l.index_size l.graph) l.asked.counters.n l.m l.initial.words l.initial.floats l.words l.floats l.takings l.tail
 
 abbrev pub decreases-loop-takings : goal.decreases-loop-takings
-decreases-loop-takings l = l.n - l.takings
+decreases-loop-takings l = l.asked.counters.n - l.takings

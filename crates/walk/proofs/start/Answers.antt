@@ -1,27 +1,30 @@
 -- `walk::start` meets its contract. Assumes nothing.
-use mathlib.Core.Path.{◌∙◌}
+use Rattle.std.proofs.lemmas.Result.{err_from_is_err_and}
+use mathlib.Core.Path.{◌∙◌, refl}
 use native.Mathlib.Omega.{arith}
 use Rattle.expand.proofs.Areas.{room-kept}
 use Rattle.walk.proofs.Marks.{roots-fit}
 use Rattle.walk.proofs.Walking.{counted-few, started_in, started-unfit}
 use Rattle.walk.proofs.start.Goals as goal
 
-pub roots_found-r-requires : goal.roots_found-r-requires
-roots_found-r-requires c = record { lanes = c.requires.lanes; room = c.requires.room; roots = c.requires.roots; le_k = c.requires.le_k }
+pub roots_found-requires : goal.roots_found-requires
+roots_found-requires c = record { few = c.requires.few; room = c.requires.room; roots = c.requires.roots; le_k = c.requires.le_k }
 
-pub shape_of-words-in_default : goal.shape_of-words-in_default
-shape_of-words-in_default c = c.roots_found-r.ensures.words
+pub shape_of-words-in_err-count : goal.shape_of-words-in_err-count
+shape_of-words-in_err-count c = c.roots_found.ensures.words
 
-pub shape_of-floats-in_default : goal.shape_of-floats-in_default
-shape_of-floats-in_default c = c.roots_found-r.ensures.floats
+pub shape_of-floats-in_err-count : goal.shape_of-floats-in_err-count
+shape_of-floats-in_err-count c = c.roots_found.ensures.floats
 
-pub returns-in_default : goal.returns-in_default
-returns-in_default c = started-unfit c.in_default.is c.roots_found-r.ensures
+pub returns-in_err-count : goal.returns-in_err-count
+returns-in_err-count c =
+    let p = err_from_is_err_and c.from_residual.result c.from_residual.ensures.1 in
+    rw (p.1, p.2) (started-unfit refl c.in_err-count.ensures)
 
 pub mark_all-requires : goal.mark_all-requires
 mark_all-requires c =
     let room = c.requires.room.words in
-    let long = c.roots_found-r.ensures.words in
+    let long = c.roots_found.ensures.words in
     record { roots = c.requires.roots; n_in_bounds = omega arith }
 
 pub enter-requires : goal.enter-requires
@@ -30,16 +33,16 @@ enter-requires c =
     let roots = c.requires.roots in
     let few = roots.few in
     let fit = roots-fit _ _ roots in
-    let count = counted-few c.in-Count.is c.roots_found-r.ensures in
-    let least = c.fewer-m.ensures in
-    record { room = room-kept c.requires.room (marked.words ∙ c.roots_found-r.ensures.words) c.roots_found-r.ensures.floats; m_bound = (omega arith, omega arith) }
+    let count = counted-few c.in_ok-count.was c.roots_found.ensures in
+    let least = c.min-m.ensures in
+    record { room = room-kept c.requires.room (marked.words ∙ c.roots_found.ensures.words) c.roots_found.ensures.floats; m_bound = (omega arith, omega arith) }
 
 pub shape_of-words : goal.shape_of-words
-shape_of-words c = c.enter.ensures.kept.words ∙ c.mark_all.ensures.words ∙ c.roots_found-r.ensures.words
+shape_of-words c = c.enter.ensures.kept.words ∙ c.mark_all.ensures.words ∙ c.roots_found.ensures.words
 
 pub shape_of-floats : goal.shape_of-floats
-shape_of-floats c = c.enter.ensures.kept.floats ∙ c.roots_found-r.ensures.floats
+shape_of-floats c = c.enter.ensures.kept.floats ∙ c.roots_found.ensures.floats
 
 pub returns : goal.returns
 returns c =
-    started_in c.requires.roots (rw c.in-Count.is at c.roots_found-r.ensures) c.mark_all.ensures c.fewer-m.ensures c.enter.ensures c.requires.room
+    started_in c.requires.roots (rw c.in_ok-count.was at c.roots_found.ensures) c.mark_all.ensures c.min-m.ensures c.enter.ensures c.requires.room
