@@ -1,14 +1,15 @@
 -- Reversed lists, loop by loop. Assumes nothing.
 use mathlib.Core.Path.{◌≡◌, refl, sym, ap, ◌∙◌, subst}
 use mathlib.Core.Bool.{Bool, true, false}
-use mathlib.Core.List.{List, [], ◌∷◌, ◌++◌, append_assoc, append-nil}
-use Prim.Native.Nat.{ℕ, suc, ◌+◌, ◌*◌, ◌≤◌, ◌<◌, zero-le}
+use mathlib.Core.List.{List, ◌++◌}
+use Prim.Native.Nat.{ℕ, ◌+◌, ◌*◌, ◌≤◌, ◌<◌, zero-le}
 use native.Mathlib.Omega.{arith}
 use borrow.Author.Tests.{ltb-true, ltb-false}
 use borrow.Rule.Slice.PartMut.{mid_of, put_mid}
 use lib.Dec.{ltb}
-use lib.ListN.{length, take, get_or, set, replicate, length-append, length-replicate, length-set, replicate-append-replicate}
-use lib.Seq.{take-suc-set, take-take}
+use Rattle.std.proofs.lemmas.Slice.{take-put_mid}
+use lib.ListN.{length-drop, drop, length, take, get_or, replicate, length-append, length-replicate}
+use lib.Seq.{take-take, take_at, length-take-le}
 use Rattle.rules.specs.Loops.{each}
 use Rattle.rules.specs.Descent.{drawn_after, kept_back}
 use Rattle.rules.specs.DescentPlaces.{member_words}
@@ -21,36 +22,17 @@ use Rattle.backs.specs.Backs.{FilledFrom, backs, GatheredBack, PutBack, Reversed
 
 -- ---- one number, some times
 
-pub record Repeating (v count len : ℕ) (out now : List ℕ) (j : ℕ) : Type 0 where
-  pub within : j ≤ count
-  pub list : take (len + j) now ≡ take len out ++ replicate j v
-  pub long : length now ≡ length out
-
-pub repeating_none : {v count len : ℕ} {out : List ℕ} → Repeating v count len out out 0
-repeating_none {v} {count} {len} {out} = record { within = zero-le; list = (let e : len + 0 ≡ len = omega arith in ap (λ (m : ℕ). take m out) e) ∙ sym (append-nil (take len out)); long = refl }
-
-module _ {v count len : ℕ} {out now : List ℕ} {j : ℕ} (inv : Repeating v count len out now j) where
-  pub repeating_turn : j < count → len + count ≤ length out → Repeating v count len out (set now (len + j) v) (j + 1)
-  repeating_turn h f =
-      let long = inv.long in
-      let e : len + (j + 1) ≡ suc (len + j) = omega arith in
-      let one : j + 1 ≡ suc j = omega arith in
-      record {
-        within = omega arith;
-        list =
-            ap (λ (m : ℕ). take m (set now (len + j) v)) e
-            ∙ take-suc-set now (len + j) v (omega arith)
-            ∙ ap (λ (l : List ℕ). l ++ (v ∷ [])) inv.list
-            ∙ append_assoc (take len out) (replicate j v) (v ∷ [])
-            ∙ ap (λ (l : List ℕ). take len out ++ l) (replicate-append-replicate j 1 v);
-        long = length-set now (len + j) v ∙ inv.long;
-      }
-
-  pub repeating_end : count ≤ j → FilledFrom v count len out now
-  repeating_end h =
-      let w = inv.within in
-      let same : j ≡ count = omega arith in
-      record { list = rw same at inv.list; long = inv.long }
+-- from place len on
+pub filled_from : {v count len : ℕ} {out ys : List ℕ} → len + count ≤ length out → {k : ℕ} → k ≡ count → ys ≡ replicate (length (mid_of len k out)) v → FilledFrom v count len out (put_mid len k out ys)
+filled_from {v} {count} {len} {out} {ys} fits {k} e f =
+    let room : length (mid_of len count out) ≡ count = length-area len count out fits in
+    let g : ys ≡ replicate count v = f ∙ ap (λ (m : ℕ). replicate (length (mid_of len m out)) v) e ∙ ap (λ (m : ℕ). replicate m v) room in
+    let l : length ys ≡ count = ap length g ∙ length-replicate count v in
+    rw e
+    (record {
+      list = take-put_mid len count out ys (len + count) (omega arith) (omega arith) ∙ ap (λ (zs : List ℕ). take len out ++ zs) g;
+      long = put-length len count out ys fits l;
+    })
 
 -- ---- each node's number
 
@@ -81,13 +63,6 @@ module _ {n at : ℕ} {us out now : List ℕ} {len i : ℕ} (inv : Backing n at 
         long = made.long ∙ inv.long;
       }
 
-  pub backing_end : n ≤ i → GatheredBack n at us out now len
-  backing_end h =
-      let w = inv.within in
-      let same : i ≡ n = omega arith in
-      let most = inv.most in
-      record { list = inv.list ∙ ap (backs at us) same; exactly = inv.exactly ∙ ap (λ (m : ℕ). length (backs at us m)) same; most = omega arith; long = inv.long }
-
 -- ---- a list to every context
 
 pub record Putting (n at : ℕ) (src us₀ us : List ℕ) (i : ℕ) : Type 0 where
@@ -97,17 +72,6 @@ pub record Putting (n at : ℕ) (src us₀ us : List ℕ) (i : ℕ) : Type 0 whe
   pub behind : (p a w : ℕ) → at + 65 ≤ a → a + w ≤ 260 → p < n → area (260 * p + a) w us ≡ area (260 * p + a) w us₀
   pub rest : (a w : ℕ) → 260 * n ≤ a → area a w us ≡ area a w us₀
   pub long : length us ≡ length us₀
-
-pub putting_none : {n at : ℕ} {src us : List ℕ} → Putting n at src us us 0
-putting_none {n} {at} {src} {us} =
-    record {
-      within = zero-le;
-      list = λ (p : ℕ) l. absurd (omega arith);
-      other = λ (p a w : ℕ) x y. refl;
-      behind = λ (p a w : ℕ) x y z. refl;
-      rest = λ (a w : ℕ) x. refl;
-      long = refl;
-    }
 
 module _ {n at : ℕ} {src us₀ us : List ℕ} {i : ℕ} (inv : Putting n at src us₀ us i) where
   pub putting_turn : {v : ℕ} {ys : List ℕ} → v ≡ 65 → i < n → at + 65 ≤ 260 → 260 * n ≤ length us₀ → length ys ≡ length (mid_of (260 * i + at) v us) → ys ≡ member_words src
@@ -139,24 +103,20 @@ module _ {n at : ℕ} {src us₀ us : List ℕ} {i : ℕ} (inv : Putting n at sr
       behinds p a w x y z inside l true f = let g = ltb-true p i f in put_low (260 * i + at) 65 us ys inside l (260 * p + a) w (omega arith) ∙ inv.behind p a w x y z
       behinds p a w x y z inside l false f = let g = ltb-false p i f in put_high (260 * i + at) 65 us ys inside l (260 * p + a) w (omega arith) ∙ inv.behind p a w x y z
 
-  pub putting_end : n ≤ i → PutBack n at src us₀ us
-  putting_end h = record { list = λ (p : ℕ) l. inv.list p (omega arith); other = inv.other; behind = inv.behind; rest = inv.rest; long = inv.long }
-
 -- ---- the reversed list, cut and copied
 
-pub reversed : {n s from to : ℕ} {draws : List ℕ} {at len kept r a b : ℕ} {us ws us' ws₁ ys : List ℕ} → a ≡ len → b ≡ kept → GatheredBack n from us ws ws₁ len → len ≤ length ws₁
-    → KeptBack draws s at (mid_of 0 a ws₁) ys kept → r ≡ drawn_after s at (mid_of 0 a (put_mid 0 a ws₁ ys)) → PutBack n to (mid_of 0 b (put_mid 0 a ws₁ ys)) us us'
-    → Reversed n s from to draws at us ws us' (put_mid 0 a ws₁ ys) r
-reversed {n} {s} {from} {to} {draws} {at} {len} {kept} {r} {a} {b} {us} {ws} {us'} {ws₁} {ys} ea eb made fits k d p =
-    let k' : KeptBack draws s at (take len ws₁) ys kept = rw ea at k in
-    let whole : length (take len ws₁) ≡ len = length-area 0 len ws₁ (omega arith) in
-    let yl : length ys ≡ len = k'.long ∙ whole in
-    let short = k'.to in
-    let front : take kept (put_mid 0 len ws₁ ys) ≡ take kept ys =
-    sym (take-take kept len (put_mid 0 len ws₁ ys) (omega arith)) ∙ ap (take kept) (put-area 0 len ws₁ ys (omega arith) yl) in
-    let list : take kept (put_mid 0 len ws₁ ys) ≡ kept_back draws s at (backs from us n) = front ∙ k'.list ∙ ap (kept_back draws s at) made.list in
+pub reversed : {n s from to : ℕ} {draws : List ℕ} {at len kept r : ℕ} {us ws us' ws₁ ys : List ℕ} → GatheredBack n from us ws ws₁ len → len ≤ length ws₁
+    → KeptBack draws s at (take len ws₁) ys kept → r ≡ drawn_after s at (take len (ys ++ drop len ws₁)) → PutBack n to (take kept (ys ++ drop len ws₁)) us us'
+    → Reversed n s from to draws at us ws us' (ys ++ drop len ws₁) r
+reversed {n} {s} {from} {to} {draws} {at} {len} {kept} {r} {us} {ws} {us'} {ws₁} {ys} made fits k d p =
+    let whole : length (take len ws₁) ≡ len = length-take-le len ws₁ fits in
+    let yl : length ys ≡ len = k.long ∙ whole in
+    let short = k.to in
+    let all : take len (ys ++ drop len ws₁) ≡ ys = take_at ys (drop len ws₁) len yl in
+    let front : take kept (ys ++ drop len ws₁) ≡ take kept ys = sym (take-take kept len (ys ++ drop len ws₁) (omega arith)) ∙ ap (take kept) all in
+    let list : take kept (ys ++ drop len ws₁) ≡ kept_back draws s at (backs from us n) = front ∙ k.list ∙ ap (kept_back draws s at) made.list in
     record {
-      put = subst (λ (xs : List ℕ). PutBack n to xs us us') (rw (ea, eb) list) p;
-      next = d ∙ rw ea (drawn-same s at (take len (put_mid 0 len ws₁ ys)) (backs from us n) (ap length (put-area 0 len ws₁ ys (omega arith) yl) ∙ yl ∙ made.exactly));
-      scratch_long = rw ea (put-length 0 len ws₁ ys (omega arith) yl ∙ made.long);
+      put = subst (λ (xs : List ℕ). PutBack n to xs us us') list p;
+      next = d ∙ drawn-same s at (take len (ys ++ drop len ws₁)) (backs from us n) (ap length all ∙ yl ∙ made.exactly);
+      scratch_long = simp (length-append, length-drop) (omega (arith, made.long));
     }

@@ -2,19 +2,7 @@
 #![tactic(auto)]
 
 ghost use Rattle.std.specs.Prelude.{◌+◌, ◌-◌, ◌*◌, ◌≤◌, ◌<◌, length};
-ghost use Rattle.backs.specs.Backs.{Lengths, FilledFrom, backs, GatheredBack, PutBack, Reversed};
-
-// Writes `count` times node `v` to `out` from `len` on.
-fn repeat(v: u32, count: usize, out: &mut [u32], len: usize)
-    requires { len + count ≤ length out.old }
-    ensures { FilledFrom v count len out.old out.new }
-{
-    let mut j: usize = 0;
-    while j < count {
-        out[len + j] = v;
-        j += 1;
-    }
-}
+ghost use Rattle.backs.specs.Backs.{Lengths, backs, GatheredBack, PutBack, Reversed};
 
 /// Writes each node's number, rising, once per member of the list at `at` of its context, to the front of `out`, and returns how many
 /// there are: what every node's reversed list is made of (hora's `reversed_new_neighbors`, one `Arc` that all nodes share).
@@ -23,12 +11,10 @@ pub fn back_members(contexts: &[u32], n: usize, at: usize, out: &mut [u32]) -> u
     ensures { GatheredBack n at contexts.now out.old out.new result }
 {
     let mut len: usize = 0;
-    let mut i: usize = 0;
-    while i < n {
+    for i in 0..n {
         let count = contexts[260 * i + at] as usize;
-        repeat(i as u32, count, out, len);
+        out[len..len + count].fill(i as u32);
         len += count;
-        i += 1;
     }
     len
 }
@@ -38,12 +24,10 @@ pub fn put_back(src: &[u32], n: usize, at: usize, contexts: &mut [u32])
     requires { (n ≤ 1024) × (at + 65 ≤ 260) × (260 * n ≤ length contexts.old) × (length src.now ≤ 64) }
     ensures { PutBack n at src.now contexts.old contexts.new }
 {
-    let mut i: usize = 0;
-    while i < n {
+    for i in 0..n {
         let from = 260 * i + at;
         let to = from + 65;
         members::put_members(src, &mut contexts[from..to]);
-        i += 1;
     }
 }
 
@@ -64,8 +48,8 @@ pub fn reverse(
     ensures { Reversed n s from to draws.now at contexts.old scratch.old contexts.new scratch.new result }
 {
     let len = back_members(contexts, n, from, scratch);
-    let kept = shuffles::keep_back(&mut scratch[0..len], s, draws, at);
-    let next = shuffles::drawn_after(&scratch[0..len], s, at);
-    put_back(&scratch[0..kept], n, to, contexts);
+    let kept = shuffles::keep_back(&mut scratch[..len], s, draws, at);
+    let next = shuffles::drawn_after(&scratch[..len], s, at);
+    put_back(&scratch[..kept], n, to, contexts);
     next
 }

@@ -1,11 +1,10 @@
 -- What a begin writes, list by list. Assumes nothing.
-use mathlib.Core.Path.{◌≡◌, refl, sym, ap, ◌∙◌, subst}
+use mathlib.Core.Path.{◌≡◌, refl, sym, ap, ◌∙◌}
 use mathlib.Core.List.{List, [], ◌∷◌, ◌++◌, append_assoc, append-nil}
 use Prim.Native.Nat.{ℕ, suc, ◌+◌, ◌-◌, ◌*◌, ◌≤◌, ◌<◌, zero-le}
-use native.Mathlib.Nat.{mul-le-mul, mul-le-mul_left}
 use native.Mathlib.Numerals.{add-one}
 use native.Mathlib.Omega.{arith}
-use lib.ListN.{length, take, drop, set, replicate, length-append, length-replicate}
+use lib.ListN.{length, take, drop, set, replicate, length-append}
 use lib.Seq.{set_at, take_at, take_all, length-take-le}
 use borrow.Rule.Slice.PartMut.{mid_of, put_mid}
 use Rattle.rules.specs.Loops.{each}
@@ -37,12 +36,6 @@ unfolding draws_from each
 drawing_none {draws} {n} {s} {at} {us₁} {m} e f = record { within = zero-le; list = rw (f, e) }
 
 module _ {draws : List ℕ} {n s at : ℕ} {us : List ℕ} {j : ℕ} (inv : Drawing draws n s at us j) (few : s ≤ 64) where
-  pub drawing_long : length us ≡ 65
-  drawing_long =
-      let l = length-draws draws n at j in
-      let w = inv.within in
-      ap length inv.list ∙ ap suc (length-append (draws_from draws n at j) (replicate (64 - j) 0) ∙ rw (length-replicate {A = ℕ} (64 - j) 0) (omega arith))
-
   pub drawing_turn : {v : ℕ} → j < s → v ≡ drawn draws n (at + j) → Drawing draws n s at (set us (j + 1) v) (j + 1)
   drawing_turn {v} h e =
       let D = draws_from draws n at j in
@@ -112,18 +105,6 @@ module _ (draws : List ℕ) (n s i : ℕ) (few : s ≤ 64) (us₀ : List ℕ) (l
       ∙ ap (λ (l : List ℕ). member_words (draws_from draws n (2 * s * i) s) ++ (member_words [] ++ (l ++ e))) ec
       ∙ ap (λ (l : List ℕ). member_words (draws_from draws n (2 * s * i) s) ++ (member_words [] ++ (member_words (draws_from draws n (2 * s * i + s) s) ++ l))) (me ∙ sym (append-nil (member_words [])))
 
--- where the draws of node i lie
-pub record Drawn (n s i draws : ℕ) : Type 0 where
-  pub first : 2 * s * i + s ≤ draws
-  pub second : 2 * s * i + s + s ≤ draws
-  pub small : 2 * s * i ≤ 131072
-
-pub drawn-at : (n s i draws : ℕ) → i < n → n ≤ 1024 → s ≤ 64 → 2 * n * s ≤ draws → Drawn n s i draws
-drawn-at n s i draws h few small fits =
-    let step : s * suc i ≤ s * n = mul-le-mul_left s h in
-    let most : s * i ≤ 64 * 1024 = mul-le-mul small (let l : i ≤ 1024 = omega arith in l) in
-    record { first = omega arith; second = omega arith; small = omega arith }
-
 -- ---- the contexts of all nodes
 
 pub record Beginning (draws : List ℕ) (n s : ℕ) (us : List ℕ) (i : ℕ) : Type 0 where
@@ -156,10 +137,3 @@ module _ {draws : List ℕ} {n s : ℕ} {us : List ℕ} {i : ℕ} (inv : Beginni
             ∙ ap (λ (r : List ℕ). context_words cs ++ r) f
             ∙ sym (rw add-one (words_append cs (begin_context draws n s i ∷ [])));
       })
-
-  pub beginning_end : n ≤ i → us ≡ context_words (each (λ (j : ℕ). begin_context draws n s j ∷ []) n)
-  beginning_end h =
-      let long = inv.long in
-      let within = inv.within in
-      let same : i ≡ n = omega arith in
-      sym (take_all (260 * n) us (omega arith)) ∙ subst (λ (m : ℕ). take (260 * m) us ≡ context_words (each (λ (j : ℕ). begin_context draws n s j ∷ []) m)) same inv.list

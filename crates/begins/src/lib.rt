@@ -13,12 +13,10 @@ fn draw_members(words: &mut [u32], draws: &[u32], n: usize, s: usize, at: usize)
     requires { (length words.old ≡ 65) × (s ≤ 64) × (1 ≤ n) × (n ≤ 1024) × (at + s ≤ length draws.now) }
     ensures { words.new ≡ member_words (draws_from draws.now n at s) }
 {
-    buffers::zero_words(words);
+    words.fill(0);
     words[0] = s as u32;
-    let mut j: usize = 0;
-    while j < s {
+    for j in 0..s {
         words[j + 1] = shuffles::drawn(draws, n, at + j) as u32;
-        j += 1;
     }
 }
 
@@ -29,9 +27,9 @@ fn begin_context(words: &mut [u32], draws: &[u32], n: usize, s: usize, i: usize)
 {
     let at = 2 * s * i;
     draw_members(&mut words[0..65], draws, n, s, at);
-    buffers::zero_words(&mut words[65..130]);
+    words[65..130].fill(0);
     draw_members(&mut words[130..195], draws, n, s, at + s);
-    buffers::zero_words(&mut words[195..260]);
+    words[195..260].fill(0);
 }
 
 // Writes the contexts of all nodes, rising.
@@ -39,12 +37,10 @@ fn begin_contexts(words: &mut [u32], draws: &[u32], n: usize, s: usize)
     requires { (length words.old ≡ 260 * n) × (s ≤ 64) × (1 ≤ n) × (n ≤ 1024) × (2 * n * s ≤ length draws.now) }
     ensures { words.new ≡ context_words (each (λ (i : ℕ). begin_context draws.now n s i ∷ []) n) }
 {
-    let mut i: usize = 0;
-    while i < n {
+    for i in 0..n {
         let from = 260 * i;
         let to = from + 260;
         begin_context(&mut words[from..to], draws, n, s, i);
-        i += 1;
     }
 }
 
@@ -66,5 +62,5 @@ pub fn begin_state(
     let marks = lists + 260 * n;
     rows::fill_row(&mut words[0..lists], floats, lists, 0, n);
     begin_contexts(&mut words[lists..marks], draws, n, s);
-    buffers::zero_words(&mut words[marks..]);
+    words[marks..].fill(0);
 }

@@ -5,8 +5,8 @@ use Prim.Native.Nat.{ℕ, ◌*◌, ◌≤◌, ◌<◌}
 use borrow.Author.Tests.{lt-ltb, le-ltb}
 use lib.ListN.{length, replicate}
 use lib.Ieee.{Float}
-use Rattle.rules.specs.declared.Answer.{Answer}
-use Rattle.rules.specs.declared.Answer.TheVariants.{Done, Refused}
+use Rattle.std.specs.Prelude.{Ok, Err}
+use Rattle.rules.specs.Answers.{Answer}
 use Rattle.rules.specs.declared.Refusal.{Refusal}
 use Rattle.rules.specs.declared.Refusal.TheVariants.{Draws}
 use Rattle.rules.specs.Distance.{nodes_apart, zero32}
@@ -32,11 +32,11 @@ module _ (l : DescentLent) where
   draws = row11 (2 * l.n * l.s) (length l.draws)
 
   module _ {a : Answer} (e : decision_of a ≡ decide rows_of) where
-    pub begin_refused : {r : Refusal} → a ≡ Refused r → BegunAll l a l.state_u l.state_f l.scratch_u l.scratch_f
+    pub begin_refused : {r : Refusal} → a ≡ Err r → BegunAll l a l.state_u l.state_f l.scratch_u l.scratch_f
     unfolding begin_rule begin_table begin_rows descent_rows begin_obeys descent_kept said_of decision_of
     begin_refused {r} f = rw f (record { whole = ap (begin_obeys l) (sym (ap decision_of f) ∙ by_answer rows_of (draws ∷ []) e f) })
 
-    module _ (f : a ≡ Done) where
+    module _ (f : a ≡ (Ok tt)) where
       pub begin_ready : Ready l.dimension l.n (length l.lanes) l.k l.s (length l.state_u) (length l.state_f) (length l.scratch_u) (length l.scratch_f)
       unfolding decision_of
       begin_ready = ready (nodes_apart l.lanes l.dimension) (sym e ∙ ap decision_of f)
@@ -45,12 +45,12 @@ module _ (l : DescentLent) where
       unfolding begin_table begin_rows descent_rows
       past = past_answer rows_of (draws ∷ []) e f
 
-      pub begin_few : length l.draws < 2 * l.n * l.s → BegunAll l (Refused Draws) l.state_u l.state_f l.scratch_u l.scratch_f
+      pub begin_few : length l.draws < 2 * l.n * l.s → BegunAll l (Err Draws) l.state_u l.state_f l.scratch_u l.scratch_f
       unfolding begin_rule begin_obeys descent_kept said_of code_of row11
       begin_few h = record { whole = sym (ap (begin_obeys l) (past ∙ held draws [] (lt-ltb (length l.draws) (2 * l.n * l.s) h))) }
 
       pub begin_done : {us su : List ℕ} {fs sf : List Float} {x y : ℕ} → 2 * l.n * l.s ≤ length l.draws → Begun l.n l.k l.s l.draws us fs → su ≡ replicate x 0 → x ≡ length l.scratch_u → sf ≡ replicate y zero32 → y ≡ length l.scratch_f
-          → BegunAll l Done us fs su sf
+          → BegunAll l (Ok tt) us fs su sf
       unfolding begin_rule begin_obeys descent_written said_of row11 decide
       begin_done {us} {su} {fs} {sf} {x} {y} h b p p' q q' =
           record {
@@ -63,7 +63,7 @@ module _ (l : DescentLent) where
           }
         where
           outcome : List ℕ → List Float → List ℕ → List Float → BeginOutcome
-          outcome ws gs xs ys = record { said = said_of Done; left = left ws gs xs ys }
+          outcome ws gs xs ys = record { said = said_of (Ok tt); left = left ws gs xs ys }
 
 -- ---- "show that any two outcomes it allows are equal"
 

@@ -2,58 +2,27 @@
 use mathlib.Core.Path.{◌≡◌, sym, ◌∙◌}
 use mathlib.Core.Bool.{Bool, true, false}
 use mathlib.Core.List.{List, [], ◌∷◌}
-use Prim.Native.Nat.{ℕ, ◌*◌, ◌≤◌, ◌<◌}
+use Prim.Native.Nat.{ℕ, ◌*◌, ◌≤◌}
 use native.Mathlib.Nat.{mul-le-mul}
 use native.Mathlib.Omega.{arith}
-use borrow.Author.Tests.{ltb-false, eqb-true, not-false, eq-eqb, ne_eqb, lt-ltb, le-ltb}
-use lib.Dec.{ltb}
-use Rattle.rules.specs.declared.Answer.{Answer}
-use Rattle.rules.specs.declared.Answer.TheVariants.{Done, Refused}
-use Rattle.rules.specs.declared.Distance.{Distance}
+use borrow.Author.Tests.{ltb-false, eqb-true, not-false}
+use Rattle.std.specs.Prelude.{Ok, Err}
+use Rattle.rules.specs.Answers.{Answer, Distance}
 use Rattle.rules.specs.declared.Refusal.{Refusal}
 use Rattle.rules.specs.Loops.{any_of}
 use Rattle.rules.specs.Numbers.{outside}
 use Rattle.rules.specs.Refusals.{Row, code, passed, refused, decide, decision_of, holds, row1, row2, row3, row4, row6, row10}
 use Rattle.rules.specs.Calls.{scratch, descent_words, taught_scratch, descent_buffers, descent_rows}
 use Rattle.rules.proofs.Tables.{all_fail, held, left, none_hold, within}
-use Rattle.rules.proofs.Tests.{or-false}
 use Rattle.table.proofs.Rows.{by_answer, past_answer, game_rows}
 
--- ---- row 4
+-- ---- rows 4 and 6
 
-module _ (k s : ℕ) where
-  abbrev pub ranges : List Bool
-  ranges = outside 1 64 k ∷ outside 1 k s ∷ []
+abbrev pub ranges : ℕ → ℕ → List Bool
+ranges k s = outside 1 64 k ∷ outside 1 k s ∷ []
 
-  pub wrong_k : outside 1 64 k ≡ true → true ≡ any_of holds ranges
-  unfolding any_of
-  wrong_k e = rw e
-
-  pub wrong_s : outside 1 64 k ≡ false → outside 1 k s ≡ any_of holds ranges
-  unfolding any_of
-  wrong_s e = rw e (or-false (outside 1 k s))
-
--- ---- row 6
-
-module _ (n k us fs words floats : ℕ) where
-  abbrev pub lengths : List Bool
-  lengths = descent_buffers n k us fs (scratch words floats)
-
-  pub wrong_words : (us ≡ descent_words n k → ⊥) → true ≡ any_of holds lengths
-  unfolding any_of
-  wrong_words e = rw (ne_eqb us (descent_words n k) e)
-
-  pub wrong_floats : us ≡ descent_words n k → (fs ≡ n * k → ⊥) → true ≡ any_of holds lengths
-  unfolding any_of
-  wrong_floats e f = rw (eq-eqb us (descent_words n k) e, ne_eqb fs (n * k) f)
-
-  pub wrong_scratch : us ≡ descent_words n k → fs ≡ n * k → words < taught_scratch n → true ≡ any_of holds lengths
-  unfolding any_of
-  wrong_scratch e f g = rw (eq-eqb us (descent_words n k) e, eq-eqb fs (n * k) f, lt-ltb words (taught_scratch n) g)
-
-  pub wrong_last : us ≡ descent_words n k → fs ≡ n * k → taught_scratch n ≤ words → ltb floats (taught_scratch n) ≡ any_of holds lengths
-  unfolding any_of
-  wrong_last e f g = rw (eq-eqb us (descent_words n k) e, eq-eqb fs (n * k) f, le-ltb words (taught_scratch n) g) (or-false (ltb floats (taught_scratch n)))
+abbrev pub lengths : ℕ → ℕ → ℕ → ℕ → ℕ → ℕ → List Bool
+lengths n k us fs words floats = descent_buffers n k us fs (scratch words floats)
 
 -- ---- the rows in order
 
@@ -71,11 +40,11 @@ module _ (dimension n lanes k s us fs words floats : ℕ) (apart : ℕ → ℕ �
   later = row4 (ranges k s) ∷ lengths_row ∷ row10 apart n ∷ []
 
   module _ {a : Answer} (e : decision_of a ≡ decide first) where
-    pub by_game : {r : Refusal} → a ≡ Refused r → decision_of a ≡ decide rows
+    pub by_game : {r : Refusal} → a ≡ Err r → decision_of a ≡ decide rows
     unfolding descent_rows
     by_game f = by_answer first later e f
 
-    module _ (f : a ≡ Done) where
+    module _ (f : a ≡ (Ok tt)) where
       past_game : decide rows ≡ decide later
       unfolding descent_rows
       past_game = past_answer first later e f

@@ -1,6 +1,6 @@
 -- What the entries of a descent are lent, and what they leave. Assumes nothing.
 use Rattle.std.specs.Prelude.{◌≡◌, List, ℕ, Float}
-use Rattle.rules.specs.declared.Answer.{Answer}
+use Rattle.rules.specs.Answers.{Answer}
 use Rattle.rules.specs.Refusals.{said_of}
 use Rattle.rules.specs.DescentCall.{DescentLent, DescentLeft, begin_rule}
 

@@ -9,19 +9,19 @@ ghost use Rattle.rules.specs.Refusals.{decide, decision_of, holds};
 ghost use Rattle.rules.specs.Calls.{scratch, descent_buffers, descent_rows};
 ghost use Rattle.descent.specs.Descent.{lent, BegunAll};
 
-use rules::{Answer, Refusal};
+use metrics::Counters;
+use rules::Refusal;
 
 /// Row 4: whether k or s is outside its range.
+#[tactic(auto, unfolding(rules::specs::Loops::any_of))]
 fn wrong_sizes(k: usize, s: usize) -> bool
     ensures { result ≡ any_of holds (outside 1 64 k ∷ outside 1 k s ∷ []) }
 {
-    if table::outside(1, 64, k) {
-        return true;
-    }
-    table::outside(1, k, s)
+    table::outside(1, 64, k) || table::outside(1, k, s)
 }
 
 /// Row 6: whether a buffer has the wrong length.
+#[tactic(auto, unfolding(rules::specs::Loops::any_of))]
 fn wrong_buffers(
     n: usize,
     k: usize,
@@ -34,17 +34,11 @@ fn wrong_buffers(
     ensures { result ≡ any_of holds (descent_buffers n k state_u state_f (scratch words floats)) }
 {
     let lists = n * k;
-    if state_u != lists + 260 * n + (n * n + 31) / 32 {
-        return true;
-    }
-    if state_f != lists {
-        return true;
-    }
     let least = 512 * n + 4096;
-    if words < least {
-        return true;
-    }
-    floats < least
+    state_u != lists + 260 * n + (n * n + 31) / 32
+        || state_f != lists
+        || words < least
+        || floats < least
 }
 
 /// The rows that begin and iterate test before their draws: 1, 2, 3, 4 (k and s), 6 and, of all pairs, 10.
@@ -58,20 +52,21 @@ pub fn judge(
     state_f: usize,
     words: usize,
     floats: usize,
-) -> Answer
+) -> Result<(), Refusal>
     ensures { decision_of result ≡ decide (descent_rows dimension n (length lanes.now) k s state_u state_f (scratch words floats) (nodes_apart lanes.now dimension) []) }
 {
-    let g = table::game(dimension, 1024, n, lanes.len());
-    let Answer::Done = g else {
-        return g;
-    };
+    table::game(dimension, 1024, n, lanes.len())?;
     if wrong_sizes(k, s) {
-        return Answer::Refused(Refusal::Parameter);
+        return Err(Refusal::Parameter);
     }
     if wrong_buffers(n, k, state_u, state_f, words, floats) {
-        return Answer::Refused(Refusal::Buffer);
+        return Err(Refusal::Buffer);
     }
-    pairs::first_unfit(lanes, dimension, n)
+    pairs::first_unfit(Counters {
+        lanes,
+        dimension,
+        n,
+    })
 }
 
 /// Begins a descent (hora's `init`): unfilled lists, for each node `s` new and then `s` reversed-new draws modulo n, no pair visited. Rows 1,
@@ -87,10 +82,10 @@ pub fn begin(
     state_f: &mut [f32],
     scratch_u: &mut [u32],
     scratch_f: &mut [f32],
-) -> Answer
+) -> Result<(), Refusal>
     ensures { BegunAll (lent dimension n lanes.now k s draws.now state_u.old state_f.old scratch_u.old scratch_f.old) result state_u.new state_f.new scratch_u.new scratch_f.new }
 {
-    let g = judge(
+    judge(
         dimension,
         n,
         lanes,
@@ -100,15 +95,12 @@ pub fn begin(
         state_f.len(),
         scratch_u.len(),
         scratch_f.len(),
-    );
-    let Answer::Done = g else {
-        return g;
-    };
+    )?;
     if draws.len() < 2 * n * s {
-        return Answer::Refused(Refusal::Draws);
+        return Err(Refusal::Draws);
     }
     begins::begin_state(n, k, s, draws, state_u, state_f);
-    buffers::zero_words(scratch_u);
-    buffers::zero_floats(scratch_f);
-    Answer::Done
+    scratch_u.fill(0);
+    scratch_f.fill(0.0);
+    Ok(())
 }

@@ -196,10 +196,3 @@ module _ {n count : ℕ} {us : List ℕ} {i : ℕ} (inv : Forming n count us i) 
 
   pub forming_not : {b : Bool} → i < count → b ≡ member_test n (take w (drop (i * 65) us)) → b ≡ false → false ≡ all_below (λ (j : ℕ). member_test n (part 65 j us)) (4 * n)
   forming_not h f g = let all = inv.all in sym (all-not (λ (j : ℕ). member_test n (part 65 j us)) (4 * n) i (omega arith) (sym here ∙ sym f ∙ g))
-
-pub forming_end : {n count : ℕ} {us : List ℕ} {i : ℕ} → Forming n count us i → count ≤ i → true ≡ all_below (λ (j : ℕ). member_test n (part 65 j us)) (4 * n)
-forming_end {n} {count} {us} {i} inv h =
-    let all = inv.all in
-    let within = inv.within in
-    let end : i ≡ 4 * n = omega arith in
-    sym inv.so_far ∙ ap (all_below (λ (j : ℕ). member_test n (part 65 j us))) end

@@ -2,14 +2,15 @@
 use mathlib.Core.Path.{◌≡◌, refl, sym, ap, ◌∙◌}
 use mathlib.Core.Bool.{Bool, true, false, ◌&&◌}
 use mathlib.Core.List.{List, [], ◌∷◌, ◌++◌}
-use Prim.Native.Nat.{ℕ, zero, suc, ◌+◌, ◌-◌, ◌≤◌, ◌<◌, zero-le}
+use Prim.Native.Nat.{ℕ, zero, suc, ◌+◌, ◌-◌, ◌≤◌, ◌<◌}
 use native.Mathlib.Nat.{suc_inj}
 use native.Mathlib.Numerals.{add-one}
 use native.Mathlib.Omega.{arith}
-use borrow.Author.Tests.{eq-eqb, ne_eqb, lt-ltb, le-ltb}
+use borrow.Author.Tests.{eq-eqb, ne_eqb}
 use lib.Dec.{eqb, ltb}
-use lib.ListN.{length, take, drop, get_or, replicate, length-take, length-drop, take-append-drop, drop_of_length-le}
-use lib.Seq.{take_all, length-take-le, drop-cons, get_or-take, get_or-drop}
+use lib.ListN.{length, take, drop, get_or, replicate, length-take, length-drop, take-append-drop}
+use lib.Seq.{take_all, length-take-le}
+use Rattle.std.specs.List.{list_all}
 use Rattle.rules.specs.Places.{padded, same_words}
 use Rattle.rules.specs.DescentPlaces.{member_words, members_in, members_formed}
 use Rattle.encoded.proofs.Same.{same-words, same-words-append}
@@ -62,48 +63,9 @@ module _ (n : ℕ) (us : List ℕ) (long : length us ≡ 65) where
     pub all-zeros : zeros (drop (len + 1) us) ≡ true → members_formed n (take len (drop 1 us)) ≡ member_test n us
     all-zeros e = sym (test-is ∙ rw e)
 
--- ---- the members, from the front
+-- ---- the members
 
-module _ (n len : ℕ) (us : List ℕ) (inside : len < length us) where
-  abbrev members : List ℕ
-  members = take len (drop 1 us)
-
-  members-long : length members ≡ len
-  members-long = length-take-le len (drop 1 us) (simp length-drop (omega arith))
-
-  module _ (i : ℕ) where
-    next-is : i < len → members_formed n (drop i members) ≡ (ltb (get_or us (i + 1) 0) n && members_formed n (drop (i + 1) members))
-    unfolding members_formed
-    next-is h =
-        let long = members-long in
-        let e : 1 + i ≡ i + 1 = omega arith in
-        ap (members_formed n) (drop-cons members i 0 (omega arith))
-        ∙ ap (λ (x : ℕ). ltb x n && members_formed n (drop (suc i) members)) (get_or-take len (drop 1 us) i 0 h ∙ get_or-drop 1 us i 0 ∙ ap (λ (j : ℕ). get_or us j 0) e)
-        ∙ rw add-one
-
-    pub below_turn : i < len → get_or us (i + 1) 0 < n → members_formed n (drop (i + 1) members) ≡ members_formed n (drop i members)
-    below_turn h g = sym (next-is h ∙ rw (lt-ltb (get_or us (i + 1) 0) n g))
-
-    pub below-not : i < len → n ≤ get_or us (i + 1) 0 → members_formed n (drop i members) ≡ false
-    below-not h g = next-is h ∙ rw (le-ltb (get_or us (i + 1) 0) n g)
-
-    pub below_end : len ≤ i → members_formed n (drop i members) ≡ true
-    unfolding members_formed
-    below_end h = let long = members-long in ap (members_formed n) (drop_of_length-le members {i = i} (omega arith))
-
-pub record Checked (n len : ℕ) (us : List ℕ) (i : ℕ) : Type 0 where
-  pub within : i ≤ len
-  pub left : members_formed n (drop i (take len (drop 1 us))) ≡ members_formed n (take len (drop 1 us))
-
-pub checked_none : {n len : ℕ} {us : List ℕ} → Checked n len us 0
-checked_none = record { within = zero-le; left = refl }
-
-module _ {n len : ℕ} {us : List ℕ} {i : ℕ} (inv : Checked n len us i) (inside : len < length us) where
-  pub checked_turn : i < len → get_or us (i + 1) 0 < n → Checked n len us (i + 1)
-  checked_turn h g = record { within = omega arith; left = below_turn n len us inside i h g ∙ inv.left }
-
-  pub checked_not : i < len → n ≤ get_or us (i + 1) 0 → false ≡ members_formed n (take len (drop 1 us))
-  checked_not h g = sym (sym inv.left ∙ below-not n len us inside i h g)
-
-  pub checked_end : len ≤ i → true ≡ members_formed n (take len (drop 1 us))
-  checked_end h = sym (sym inv.left ∙ below_end n len us inside i h)
+pub formed-all : (n : ℕ) (xs : List ℕ) → members_formed n xs ≡ list_all (λ (v : ℕ). ltb v n) xs
+unfolding members_formed
+formed-all n [] = refl
+formed-all n (x ∷ xs) = ap (λ (b : Bool). ltb x n && b) (formed-all n xs)

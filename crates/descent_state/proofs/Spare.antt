@@ -102,10 +102,3 @@ module _ {n used spare : ℕ} {us : List ℕ} {j : ℕ} (inv : Clear n used spar
   clear-not h e f =
       let all = inv.all in
       sym (all-not (λ (i : ℕ). not (bit_at us (n * n + i))) (32 * marks n - n * n) j (omega arith) (ap (λ (u : ℕ). not (bit_at us (u + j))) (sym inv.from) ∙ ap not (sym e ∙ f)))
-
-  pub clear-end : spare ≤ j → true ≡ all_below (λ (i : ℕ). not (bit_at us (n * n + i))) (32 * marks n - n * n)
-  clear-end h =
-      let all = inv.all in
-      let within = inv.within in
-      let end : j ≡ 32 * marks n - n * n = omega arith in
-      sym inv.so_far ∙ ap (all_below (λ (i : ℕ). not (bit_at us (n * n + i)))) end

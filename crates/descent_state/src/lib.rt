@@ -8,19 +8,11 @@ ghost use Rattle.zeros.specs.Zeros.{all_below};
 ghost use Rattle.visits.specs.Marks.{marks};
 ghost use Rattle.descent_state.specs.State.{Sized, member_test};
 
-// Whether each of the `len` members behind the first word is below `n`.
-fn members_below(words: &[u32], len: usize, n: usize) -> bool
-    requires { len < length words.now }
-    ensures { result ≡ members_formed n (take len (drop 1 words.now)) }
+// Whether each of the members is below `n`.
+fn members_below(members: &[u32], n: usize) -> bool
+    ensures { result ≡ members_formed n members.now }
 {
-    let mut i: usize = 0;
-    while i < len {
-        if n <= words[i + 1] as usize {
-            return false;
-        }
-        i += 1;
-    }
-    true
+    members.iter().all(|&v| (v as usize) < n)
 }
 
 /// Whether 65 words are a well-formed list of a context: its length, at most 64, members below `n`, zeros behind them.
@@ -29,13 +21,7 @@ pub fn members_formed(words: &[u32], n: usize) -> bool
     ensures { result ≡ member_test n words.now }
 {
     let len = words[0] as usize;
-    if 64 < len {
-        return false;
-    }
-    if !zeros::words_zero(words, len + 1) {
-        return false;
-    }
-    members_below(words, len, n)
+    len <= 64 && zeros::words_zero(words, len + 1) && members_below(&words[1..=len], n)
 }
 
 // Whether the four lists of each of `n` contexts are well formed.
@@ -44,14 +30,12 @@ fn contexts_formed(words: &[u32], n: usize) -> bool
     ensures { result ≡ all_below (λ (i : ℕ). member_test n (part 65 i words.now)) (4 * n) }
 {
     let count = 4 * n;
-    let mut i: usize = 0;
-    while i < count {
+    for i in 0..count {
         let from = i * 65;
         let to = from + 65;
         if !members_formed(&words[from..to], n) {
             return false;
         }
-        i += 1;
     }
     true
 }
@@ -63,12 +47,10 @@ fn spare_clear(words: &[u32], n: usize) -> bool
 {
     let used = n * n;
     let spare = 32 * words.len() - used;
-    let mut j: usize = 0;
-    while j < spare {
+    for j in 0..spare {
         if bits::bit_at(words, used + j) {
             return false;
         }
-        j += 1;
     }
     true
 }
@@ -78,13 +60,9 @@ pub fn descent_formed(n: usize, k: usize, words: &[u32], floats: &[f32]) -> bool
     requires { Sized n k words.now floats.now }
     ensures { result ≡ descent_formed n k words.now floats.now }
 {
-    if !formed::lists_formed(words, floats, n, k) {
-        return false;
-    }
     let from = n * k;
     let to = from + 260 * n;
-    if !contexts_formed(&words[from..to], n) {
-        return false;
-    }
-    spare_clear(&words[to..], n)
+    formed::lists_formed(words, floats, n, k)
+        && contexts_formed(&words[from..to], n)
+        && spare_clear(&words[to..], n)
 }

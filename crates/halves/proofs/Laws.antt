@@ -1,19 +1,19 @@
 -- What one step of half a job leaves. Assumes nothing.
 use mathlib.Core.Path.{◌≡◌, refl, sym, ap, ◌∙◌}
-use mathlib.Core.Bool.{Bool, not, ◌&&◌}
+use mathlib.Core.Bool.{Bool, true, false, not, ◌&&◌}
 use mathlib.Core.List.{List, ◌∷◌, ◌++◌}
 use Prim.Native.Nat.{ℕ, zero, suc, ◌+◌, ◌-◌, ◌≤◌, ◌<◌}
 use native.Mathlib.Omega.{arith}
-use borrow.Author.Tests.{eq-eqb, ne_eqb}
-use lib.Dec.{eqb, ltb}
+use lib.Dec.{ltb}
 use lib.ListN.{length, take, drop, set, replicate, length-set, take-append-drop}
 use lib.Seq.{drop_at, drop-drop, drop-cons, drop-set-add, length-take-le}
 use lib.Ieee.{Float}
+use Rattle.std.proofs.lemmas.Bool.Decides.{nat_tests}
 use Rattle.rules.specs.declared.Neighbor.{Neighbor}
 use Rattle.rules.specs.Distance.{zero32}
 use Rattle.rules.specs.Lists.{entries, nodes_of, distances_of, insert}
 use Rattle.rules.specs.Offers.{look, pop}
-use Rattle.rules.specs.Relay.{Stage, taken_of, longer_of, bit, next_stage, next_list}
+use Rattle.rules.specs.Relay.{Stage, taken_of, longer_of, next_stage, next_list}
 use Rattle.rules.specs.Places.{padded}
 use Rattle.rules.specs.RelayPlaces.{stage_in}
 use Rattle.rules.proofs.Places.{drop-replicate}
@@ -21,32 +21,47 @@ use Rattle.lists.specs.Lists.{Pushed, Popped}
 use Rattle.lists.proofs.Laws.{length-insert}
 use Rattle.lists.proofs.Slices.{length-entries, nodes_of-entries, distances_of-entries}
 use Rattle.lists.proofs.Plain.{length-nodes, length-distances}
-use Rattle.halves.specs.Halves.{NextFlags, Roomed, NextList}
+use Rattle.halves.specs.Halves.{Roomed, NextList}
 
 -- ---- the flags
 
-flag : (t : ℕ) → t ≤ 1 → t ≡ bit (eqb t 1)
-flag zero h = refl
-flag (suc zero) h = refl
-flag (suc (suc t)) h = absurd (omega arith)
+module _ (k : ℕ) (equal : Bool) (e : Neighbor) (l : List Neighbor) (steps : ℕ) (t m : Bool) where
+  abbrev next : Stage
+  next = next_stage k equal e l (stage_in steps t m)
 
-module _ (k : ℕ) (equal : Bool) (e : Neighbor) (l : List Neighbor) where
-  pub flags-looked : (steps a : ℕ) (t longer : Bool) → steps ≡ 0 → a ≡ bit (not equal && look e l) → NextFlags k equal e l (stage_in steps t longer) (record { taken = a; longer = 0 })
-  unfolding next_stage stage_in taken_of longer_of
-  flags-looked steps a t longer s h = rw s (record { taken = h; longer = refl })
+  pub taken_looked : steps ≡ 0 → taken_of next ≡ (not equal && look e l)
+  unfolding next_stage stage_in taken_of
+  taken_looked s = rw s
 
-  pub flags-pushed : (steps t : ℕ) (longer : Bool) → steps ≡ 1 → t ≤ 1 → NextFlags k equal e l (stage_in steps (eqb t 1) longer) (record { taken = t; longer = 0 })
-  unfolding next_stage stage_in taken_of longer_of
-  flags-pushed steps t longer s h = rw s (record { taken = flag t h; longer = refl })
+  pub longer_looked : steps ≡ 0 → longer_of next ≡ false
+  unfolding next_stage stage_in longer_of
+  longer_looked s = rw s
 
-  pub flags-measured : (steps t b : ℕ) (longer : Bool) → steps ≡ 2 → t ≤ 1 → b ≡ bit (eqb t 1 && ltb k (length l))
-      → NextFlags k equal e l (stage_in steps (eqb t 1) longer) (record { taken = t; longer = b })
-  unfolding next_stage stage_in taken_of longer_of
-  flags-measured steps t b longer s h g = rw s (record { taken = flag t h; longer = g })
+  pub taken_pushed : steps ≡ 1 → taken_of next ≡ t
+  unfolding next_stage stage_in taken_of
+  taken_pushed s = rw s
 
-  pub flags-popped : (steps t longer : ℕ) → steps ≡ 3 → t ≤ 1 → longer ≤ 1 → NextFlags k equal e l (stage_in steps (eqb t 1) (eqb longer 1)) (record { taken = t; longer = longer })
-  unfolding next_stage stage_in taken_of longer_of
-  flags-popped steps t longer s h g = rw s (record { taken = flag t h; longer = flag longer g })
+  pub longer_pushed : steps ≡ 1 → longer_of next ≡ false
+  unfolding next_stage stage_in longer_of
+  longer_pushed s = rw s
+
+  pub taken_measured : steps ≡ 2 → taken_of next ≡ t
+  unfolding next_stage stage_in taken_of
+  taken_measured s = rw s
+
+  pub longer_measured : steps ≡ 2 → longer_of next ≡ (t && ltb k (length l))
+  unfolding next_stage stage_in longer_of
+  longer_measured s = rw s
+
+  pub taken_popped : steps ≡ 3 → taken_of next ≡ t
+  unfolding next_stage stage_in taken_of
+  taken_popped s = rw s
+
+  pub longer_popped : steps ≡ 3 → longer_of next ≡ m
+  unfolding next_stage stage_in longer_of
+  longer_popped s = rw s
+
+pub ruleset flag_laws = (taken_looked, longer_looked, taken_pushed, longer_pushed, taken_measured, longer_measured, taken_popped, longer_popped, length-entries, nat_tests)
 
 -- ---- room behind a list
 
@@ -103,7 +118,7 @@ module _ {ns : List ℕ} {ds : List Float} {len : ℕ} (room : Roomed ns ds len)
     repad zero32 (length ns) r (distances_of l') ds' (sym (distances_of-entries r ns' ds' b) ∙ ap distances_of d) (length-distances l' ∙ a) g,
   )
 
-  pub list_pushed : (steps t : ℕ) (longer : Bool) {ns' : List ℕ} {ds' : List Float} {r : ℕ} → steps ≡ 1 → t ≡ 1 → len < length ns → Pushed ns ds len e ns' ds' r → NextList ns ds len e (stage_in steps (eqb t 1) longer) ns' ds' r
+  pub list_pushed : (steps : ℕ) (t longer : Bool) {ns' : List ℕ} {ds' : List Float} {r : ℕ} → steps ≡ 1 → t ≡ true → len < length ns → Pushed ns ds len e ns' ds' r → NextList ns ds len e (stage_in steps t longer) ns' ds' r
   unfolding next_list stage_in
   list_pushed steps t longer {ns'} {ds'} {r} s g h made =
       let a = length-insert e l in
@@ -115,11 +130,11 @@ module _ {ns : List ℕ} {ds : List Float} {len : ℕ} (room : Roomed ns ds len)
       let p = list_put (insert e l) ns' ds' r (omega arith) (omega arith) (omega arith) made.list
       (made.nodes_rest ∙ behind 0 (length ns) r (nodes_of l) ns room.nodes (let d = length-nodes l in omega arith))
       (made.dists_rest ∙ behind zero32 (length ns) r (distances_of l) ds room.dists (let d = length-distances l in omega arith)) in
-      rw (s, eq-eqb t 1 g) (record { count = p.0; few = omega arith; nodes = p.1; dists = p.2 })
+      rw (s, g) (record { count = p.0; few = omega arith; nodes = p.1; dists = p.2 })
 
-  pub list-popped : (steps longer : ℕ) (t : Bool) {ns' : List ℕ} {ds' : List Float} {r : ℕ} → steps ≡ 3 → longer ≡ 1 → Popped ns ds len ns' ds' r → NextList ns ds len e (stage_in steps t (eqb longer 1)) ns' ds' r
+  pub list-popped : (steps : ℕ) (t longer : Bool) {ns' : List ℕ} {ds' : List Float} {r : ℕ} → steps ≡ 3 → longer ≡ true → Popped ns ds len ns' ds' r → NextList ns ds len e (stage_in steps t longer) ns' ds' r
   unfolding next_list stage_in pop
-  list-popped steps longer t {ns'} {ds'} {r} s g made =
+  list-popped steps t longer {ns'} {ds'} {r} s g made =
       let b = long in
       let c = made.count in
       let h = room.long in
@@ -130,23 +145,14 @@ module _ {ns : List ℕ} {ds : List Float} {len : ℕ} (room : Roomed ns ds len)
       let p = list_put (take (length l - 1) l) ns' ds' r (length-take-le (length l - 1) l (omega arith) ∙ one) (omega arith) (omega arith) (made.list ∙ ap (λ (i : ℕ). take i l) (sym one))
       (ap (drop r) made.nodes ∙ freed 0 (length ns) r (nodes_of l) ns room.nodes (let d = length-nodes l in omega arith) (omega arith) (omega arith))
       (ap (drop r) made.dists ∙ freed zero32 (length ns) r (distances_of l) ds room.dists (let d = length-distances l in omega arith) (omega arith) (omega arith)) in
-      rw (s, eq-eqb longer 1 g) (record { count = p.0; few = omega arith; nodes = p.1; dists = p.2 })
+      rw (s, g) (record { count = p.0; few = omega arith; nodes = p.1; dists = p.2 })
 
 -- ---- stages at which the list stays
 
-module _ (e : Neighbor) (l : List Neighbor) where
-  pub stays_left : (steps t : ℕ) (longer : Bool) → steps ≡ 1 → (t ≡ 1 → ⊥) → next_list e l (stage_in steps (eqb t 1) longer) ≡ l
-  unfolding next_list stage_in
-  stays_left steps t longer s h = rw (s, ne_eqb t 1 h)
-
-  pub stays_short : (steps longer : ℕ) (t : Bool) → steps ≡ 3 → (longer ≡ 1 → ⊥) → next_list e l (stage_in steps t (eqb longer 1)) ≡ l
-  unfolding next_list stage_in
-  stays_short steps longer t s h = rw (s, ne_eqb longer 1 h)
-
-  pub stays : (steps : ℕ) (t longer : Bool) → steps ≤ 3 → (steps ≡ 1 → ⊥) → (steps ≡ 3 → ⊥) → next_list e l (stage_in steps t longer) ≡ l
-  unfolding next_list stage_in
-  stays zero t longer h a b = refl
-  stays (suc zero) t longer h a b = absurd (a refl)
-  stays (suc (suc zero)) t longer h a b = refl
-  stays (suc (suc (suc zero))) t longer h a b = absurd (b refl)
-  stays (suc (suc (suc (suc s)))) t longer h a b = absurd (omega arith)
+pub stays : (e : Neighbor) (l : List Neighbor) (steps : ℕ) (t longer : Bool) → steps ≤ 3 → (steps ≡ 1 → t ≡ false) → (steps ≡ 3 → longer ≡ false) → next_list e l (stage_in steps t longer) ≡ l
+unfolding next_list stage_in
+stays e l zero t longer h a b = refl
+stays e l (suc zero) t longer h a b = rw (a refl)
+stays e l (suc (suc zero)) t longer h a b = refl
+stays e l (suc (suc (suc zero))) t longer h a b = rw (b refl)
+stays e l (suc (suc (suc (suc s)))) t longer h a b = absurd (omega arith)

@@ -3,14 +3,14 @@ use Rattle.std.specs.Prelude.{◌≡◌, Bool, List, ℕ, ◌≤◌, length, Flo
 use Rattle.rules.specs.declared.Neighbor.{Neighbor}
 use Rattle.rules.specs.Distance.{zero32}
 use Rattle.rules.specs.Lists.{entries, nodes_of, distances_of}
-use Rattle.rules.specs.Relay.{Stage, taken_of, longer_of, bit, next_stage, next_list}
+use Rattle.rules.specs.Relay.{Stage, taken_of, longer_of, next_stage, next_list}
 use Rattle.rules.specs.Places.{padded}
 use Rattle.halves.specs.declared.Flags.{Flags}
 
 -- the flags of the next stage
 pub record NextFlags (k : ℕ) (equal : Bool) (e : Neighbor) (l : List Neighbor) (s : Stage) (r : Flags) : Type 0 where
-  pub taken : r.taken ≡ bit (taken_of (next_stage k equal e l s))
-  pub longer : r.longer ≡ bit (longer_of (next_stage k equal e l s))
+  pub taken : r.taken ≡ taken_of (next_stage k equal e l s)
+  pub longer : r.longer ≡ longer_of (next_stage k equal e l s)
 
 -- a list in its room, zeros behind it
 pub record Roomed (ns : List ℕ) (ds : List Float) (len : ℕ) : Type 0 where

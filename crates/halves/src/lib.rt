@@ -1,50 +1,23 @@
 // One step of half a job, on the list that it offers to: what the job keeps, and what becomes of the list in its room.
 #![tactic(auto)]
 
-ghost use Rattle.std.specs.Prelude.{◌≡◌, not, ◌&&◌, ◌≤◌, ◌<◌, eqb, ltb, length};
+ghost use Rattle.std.specs.Prelude.{◌≡◌, true, ◌≤◌, ◌<◌, length};
 ghost use Rattle.rules.specs.Lists.{entries};
-ghost use Rattle.rules.specs.Offers.{look};
-ghost use Rattle.rules.specs.Relay.{bit};
 ghost use Rattle.rules.specs.RelayPlaces.{stage_in};
 ghost use Rattle.halves.specs.Halves.{NextFlags, Roomed, NextList};
 
 use rules::Neighbor;
 
-/// A half's report and measure: 1 or 0.
+/// A half's report, and what its measure said.
 #[derive(Clone, Copy)]
 pub struct Flags {
-    pub taken: u32,
-    pub longer: u32,
+    pub taken: bool,
+    pub longer: bool,
 }
 
-/// The look: 1 where the offer is taken up, which it is not where u = v.
-fn look_flag(nodes: &[u32], dists: &[f32], len: usize, e: Neighbor, equal: bool) -> u32
-    requires { (1 ≤ len) × (len ≤ length nodes.now) × (len ≤ length dists.now) }
-    ensures { result ≡ bit (not equal && look e (entries len nodes.now dists.now)) }
-{
-    if equal {
-        return 0;
-    }
-    if steps::look(nodes, dists, len, e) {
-        return 1;
-    }
-    0
-}
-
-/// The measure: 1 where the offer was taken up and the list is longer than `k`.
-fn measure_flag(taken: u32, k: usize, len: usize) -> u32
-    ensures { result ≡ bit (eqb taken 1 && ltb k len) }
-{
-    if taken != 1 {
-        return 0;
-    }
-    if k < len {
-        return 1;
-    }
-    0
-}
-
-/// What a half with `steps` done keeps after its next step.
+/// What a half with `steps` done keeps after its next step: a look takes an offer up unless u = v, and only of one that was taken up
+/// can the list be longer than `k`.
+#[tactic(auto, using(crate::proofs::Laws::flag_laws))]
 pub fn next_flags(
     nodes: &[u32],
     dists: &[f32],
@@ -53,29 +26,28 @@ pub fn next_flags(
     e: Neighbor,
     equal: bool,
     steps: usize,
-    taken: u32,
-    longer: u32,
+    flags: Flags,
 ) -> Flags
     requires le_k { (1 ≤ k) × (k ≤ len) × (len ≤ length nodes.now) × (len ≤ length dists.now) }
-    requires steps_bound { (steps ≤ 3) × (taken ≤ 1) × (longer ≤ 1) }
-    ensures { NextFlags k equal e (entries len nodes.now dists.now) (stage_in steps (eqb taken 1) (eqb longer 1)) result }
+    requires steps_bound { steps ≤ 3 }
+    ensures { NextFlags k equal e (entries len nodes.now dists.now) (stage_in steps flags.taken flags.longer) result }
 {
-    if steps == 0 {
-        return Flags {
-            taken: look_flag(nodes, dists, len, e, equal),
-            longer: 0,
-        };
-    }
-    if steps == 1 {
-        return Flags { taken, longer: 0 };
-    }
-    if steps == 2 {
-        return Flags {
+    let taken = flags.taken;
+    match steps {
+        0 => Flags {
+            taken: !equal && steps::look(nodes, dists, len, e),
+            longer: false,
+        },
+        1 => Flags {
             taken,
-            longer: measure_flag(taken, k, len),
-        };
+            longer: false,
+        },
+        2 => Flags {
+            taken,
+            longer: taken && k < len,
+        },
+        _ => flags,
     }
-    Flags { taken, longer }
 }
 
 /// The next step of a half with `steps` done, on its list: the second pushes where the offer was taken up, the fourth pops where
@@ -86,23 +58,17 @@ pub fn next_list(
     len: usize,
     e: Neighbor,
     steps: usize,
-    taken: u32,
-    longer: u32,
+    flags: Flags,
 ) -> usize
     requires le_len { (1 ≤ len) × (steps ≤ 3) × Roomed nodes.old dists.old len }
-    requires len_in_bounds { steps ≡ 1 → taken ≡ 1 → len < length nodes.old }
-    ensures { NextList nodes.old dists.old len e (stage_in steps (eqb taken 1) (eqb longer 1)) nodes.new dists.new result }
+    requires len_in_bounds { steps ≡ 1 → flags.taken ≡ true → len < length nodes.old }
+    ensures { NextList nodes.old dists.old len e (stage_in steps flags.taken flags.longer) nodes.new dists.new result }
 {
-    if steps == 1 {
-        if taken == 1 {
-            return lists::push(nodes, dists, len, e);
-        }
-        return len;
+    if steps == 1 && flags.taken {
+        return lists::push(nodes, dists, len, e);
     }
-    if steps == 3 {
-        if longer == 1 {
-            return lists::pop(nodes, dists, len);
-        }
+    if steps == 3 && flags.longer {
+        return lists::pop(nodes, dists, len);
     }
     len
 }

@@ -7,10 +7,8 @@ use native.Mathlib.Omega.{arith}
 use borrow.Author.Tests.{not-true}
 use lib.ListN.{length, replicate}
 use lib.Ieee.{Float}
-use Rattle.rules.specs.declared.Answer.{Answer}
-use Rattle.rules.specs.declared.Answer.TheVariants as answer
-use Rattle.rules.specs.declared.IterateAnswer.{IterateAnswer}
-use Rattle.rules.specs.declared.IterateAnswer.TheVariants.{Iterated, Refused}
+use Rattle.std.specs.Prelude.{Ok, Err}
+use Rattle.rules.specs.Answers.{Answer, IterateAnswer}
 use Rattle.rules.specs.declared.Refusal.{Refusal}
 use Rattle.rules.specs.declared.Refusal.TheVariants.{State}
 use Rattle.rules.specs.Distance.{between, zero32}
@@ -28,17 +26,17 @@ use Rattle.iterates.specs.Iterates.{IteratedIn}
 use Rattle.iterate.specs.Iterate.{iterate_left, IteratedAll}
 
 module _ (l : DescentLent) where
-  pub iterate_refused : {a : Answer} {r : Refusal} → decision_of a ≡ decide (iterate_table l) → a ≡ answer.Refused r → IteratedAll l (Refused r) l.state_u l.state_f l.scratch_u l.scratch_f
+  pub iterate_refused : {a : Answer} {r : Refusal} → decision_of a ≡ decide (iterate_table l) → a ≡ Err r → IteratedAll l (Err r) l.state_u l.state_f l.scratch_u l.scratch_f
   unfolding iterate_rule iterate_obeys descent_kept iterate_said decision_of
   iterate_refused {a} {r} e f = record { whole = ap (iterate_obeys l) (sym (ap decision_of f) ∙ e) }
 
-  pub no_row : {a : Answer} → decision_of a ≡ decide (iterate_table l) → a ≡ answer.Done → decide (iterate_table l) ≡ passed
+  pub no_row : {a : Answer} → decision_of a ≡ decide (iterate_table l) → a ≡ (Ok tt) → decide (iterate_table l) ≡ passed
   unfolding decision_of
   no_row e f = sym e ∙ ap decision_of f
 
   pub iterate_done : {us ws su : List ℕ} {fs sf : List Float} {cost new : ℕ} → decide (iterate_table l) ≡ passed
       → IteratedIn (between l.lanes l.dimension) l.draws l.n l.k l.s l.state_u l.state_f l.scratch_u us fs ws cost new
-      → su ≡ replicate (length ws) 0 → sf ≡ replicate (length l.scratch_f) zero32 → IteratedAll l (Iterated cost new) us fs su sf
+      → su ≡ replicate (length ws) 0 → sf ≡ replicate (length l.scratch_f) zero32 → IteratedAll l (Ok (record { cost = cost; new = new })) us fs su sf
   unfolding iterate_rule iterate_obeys iterate_ends descent_written iterate_said
   iterate_done e i p q =
       let a = i.words in
@@ -114,16 +112,16 @@ module _ (l : DescentLent) where
   state-others w =
       (λ t h. omega arith, (λ t h. omega arith, (λ t h. omega arith, (λ t h. omega arith, (λ t h. omega arith, (λ t h. omega arith, (λ t h. omega arith, (λ t h. let e = sym w ∙ not-true _ t in let z : ◌≡◌ {A = ℕ} 0 1 = cc in omega arith, tt))))))))
 
-  begun-passed : {us su : List ℕ} {fs sf : List Float} → BegunAll l answer.Done us fs su sf → decide (begin_table l) ≡ passed
+  begun-passed : {us su : List ℕ} {fs sf : List Float} → BegunAll l (Ok tt) us fs su sf → decide (begin_table l) ≡ passed
   unfolding begin_rule said_of
   begun-passed b = all-passed (begin_table l) begin_others (sym (ap (λ (o : BeginOutcome). o.said.number) b.whole ∙ begin_number l (decide (begin_table l))))
 
-  iterated-passed : {us su : List ℕ} {fs sf : List Float} {cost new : ℕ} → IteratedAll l (Iterated cost new) us fs su sf → decide (iterate_table l) ≡ passed
+  iterated-passed : {us su : List ℕ} {fs sf : List Float} {cost new : ℕ} → IteratedAll l (Ok (record { cost = cost; new = new })) us fs su sf → decide (iterate_table l) ≡ passed
   unfolding iterate_rule iterate_said
   iterated-passed i = all-passed (iterate_table l) iterate_others (sym (ap (λ (o : IterateOutcome). o.said.code.number) i.whole ∙ iterate_number l (decide (iterate_table l))))
 
   -- a well-formed state is not refused with 12
-  pub not-state : descent_formed l.n l.k l.state_u l.state_f ≡ true → {us su : List ℕ} {fs sf : List Float} → IteratedAll l (Refused State) us fs su sf → ⊥
+  pub not-state : descent_formed l.n l.k l.state_u l.state_f ≡ true → {us su : List ℕ} {fs sf : List Float} → IteratedAll l (Err State) us fs su sf → ⊥
   unfolding iterate_rule iterate_said code_of number_of
   not-state w i = go (decide (iterate_table l)) refl (ap (λ (o : IterateOutcome). o.said.code.number) i.whole ∙ iterate_number l (decide (iterate_table l)))
     where
@@ -142,14 +140,14 @@ module _ (l next : DescentLent) {us : List ℕ} {fs : List Float} (f : Follows l
   follows_formed : descent_formed l.n l.k us fs ≡ true → descent_formed next.n next.k next.state_u next.state_f ≡ true
   follows_formed h = let a = f.nodes in let b = f.places in let c = f.words in let d = f.floats in rw (a, b, c, d) h
 
-  pub after_begin : {su us' su' : List ℕ} {sf fs' sf' : List Float} → BegunAll l answer.Done us fs su sf → IteratedAll next (Refused State) us' fs' su' sf' → ⊥
+  pub after_begin : {su us' su' : List ℕ} {sf fs' sf' : List Float} → BegunAll l (Ok tt) us fs su sf → IteratedAll next (Err State) us' fs' su' sf' → ⊥
   after_begin b i =
       let p = ap (λ (o : BeginOutcome). o.left.state_u) b.whole in
       let q = ap (λ (o : BeginOutcome). o.left.state_f) b.whole in
       not-state next (follows_formed (rw (p, q) (begin_leaves l (begun-passed l b)))) i
 
   -- what an f32 slice holds are values of binary32
-  pub after_iterate : {cost new : ℕ} {su us' su' : List ℕ} {sf fs' sf' : List Float} → Binary32 l.state_f → IteratedAll l (Iterated cost new) us fs su sf → IteratedAll next (Refused State) us' fs' su' sf' → ⊥
+  pub after_iterate : {cost new : ℕ} {su us' su' : List ℕ} {sf fs' sf' : List Float} → Binary32 l.state_f → IteratedAll l (Ok (record { cost = cost; new = new })) us fs su sf → IteratedAll next (Err State) us' fs' su' sf' → ⊥
   after_iterate B b i =
       let p = ap (λ (o : IterateOutcome). o.left.state_u) b.whole in
       let q = ap (λ (o : IterateOutcome). o.left.state_f) b.whole in

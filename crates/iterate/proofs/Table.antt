@@ -5,9 +5,8 @@ use mathlib.Core.List.{List, [], ◌∷◌, ◌++◌}
 use Prim.Native.Nat.{ℕ, ◌*◌, ◌≤◌, ◌<◌}
 use borrow.Author.Tests.{ltb-false, not-false, lt-ltb, le-ltb}
 use lib.ListN.{length}
-use Rattle.rules.specs.declared.Answer.{Answer}
-use Rattle.rules.specs.declared.Answer.TheVariants.{Done, Refused}
-use Rattle.rules.specs.declared.Distance.{Distance}
+use Rattle.std.specs.Prelude.{Ok, Err}
+use Rattle.rules.specs.Answers.{Answer, Distance}
 use Rattle.rules.specs.declared.Refusal.{Refusal}
 use Rattle.rules.specs.Distance.{nodes_apart}
 use Rattle.rules.specs.Refusals.{Row, code, passed, refused, decide, decision_of, row11, row12}
@@ -36,11 +35,11 @@ module _ (dimension n lanes k s us fs words floats : ℕ) (apart : ℕ → ℕ �
 
   module _ {a : Answer} (e : decision_of a ≡ decide first) where
     -- what begin tests too
-    pub by_shared : {r : Refusal} → a ≡ Refused r → decision_of a ≡ decide table
+    pub by_shared : {r : Refusal} → a ≡ Err r → decision_of a ≡ decide table
     unfolding iterate_rows descent_rows
     by_shared f = by_answer first later e f
 
-    module _ (f : a ≡ Done) where
+    module _ (f : a ≡ (Ok tt)) where
       past : decide table ≡ decide later
       unfolding iterate_rows descent_rows
       past = past_answer first later e f

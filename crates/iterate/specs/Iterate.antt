@@ -1,6 +1,6 @@
 -- What the entry `iterate` leaves. Assumes nothing.
 use Rattle.std.specs.Prelude.{◌≡◌, List, ℕ, Float}
-use Rattle.rules.specs.declared.IterateAnswer.{IterateAnswer}
+use Rattle.rules.specs.Answers.{IterateAnswer}
 use Rattle.rules.specs.DescentCall.{DescentLent, IterateOutcome, iterate_said, iterate_rule}
 use Rattle.descent.specs.Descent.{left}
 

@@ -9,7 +9,8 @@ ghost use Rattle.rules.specs.DescentPlaces.{descent_formed};
 ghost use Rattle.descent.specs.Descent.{lent};
 ghost use Rattle.iterate.specs.Iterate.{IteratedAll};
 
-use rules::{Answer, IterateAnswer, Refusal};
+use metrics::Counters;
+use rules::{IterateCounts, Refusal};
 
 /// The rows that begin tests too, then 11 (2nk draws) and 12.
 fn judge(
@@ -23,10 +24,10 @@ fn judge(
     state_f: &[f32],
     words: usize,
     floats: usize,
-) -> Answer
+) -> Result<(), Refusal>
     ensures { decision_of result ≡ decide (iterate_rows dimension n (length lanes.now) k s (length state_u.now) (length state_f.now) (scratch words floats) (nodes_apart lanes.now dimension) draws (descent_formed n k state_u.now state_f.now)) }
 {
-    let g = descent::judge(
+    descent::judge(
         dimension,
         n,
         lanes,
@@ -36,17 +37,14 @@ fn judge(
         state_f.len(),
         words,
         floats,
-    );
-    let Answer::Done = g else {
-        return g;
-    };
+    )?;
     if draws < 2 * n * k {
-        return Answer::Refused(Refusal::Draws);
+        return Err(Refusal::Draws);
     }
     if descent_state::descent_formed(n, k, state_u, state_f) {
-        return Answer::Done;
+        return Ok(());
     }
-    Answer::Refused(Refusal::State)
+    Err(Refusal::State)
 }
 
 /// One iteration of a descent (hora's `iterate`): answers its cost and the total of new. Rows 1, 2, 3, 4 (k and s), 6, 10, 11 and 12. A
@@ -62,10 +60,10 @@ pub fn iterate(
     state_f: &mut [f32],
     scratch_u: &mut [u32],
     scratch_f: &mut [f32],
-) -> IterateAnswer
+) -> Result<IterateCounts, Refusal>
     ensures { IteratedAll (lent dimension n lanes.now k s draws.now state_u.old state_f.old scratch_u.old scratch_f.old) result state_u.new state_f.new scratch_u.new scratch_f.new }
 {
-    let v = judge(
+    judge(
         dimension,
         n,
         lanes,
@@ -76,19 +74,14 @@ pub fn iterate(
         state_f,
         scratch_u.len(),
         scratch_f.len(),
-    );
-    match v {
-        Answer::Refused(r) => IterateAnswer::Refused(r),
-        Answer::Done => {
-            let c = iterates::iterate_state(
-                lanes, dimension, n, k, s, draws, state_u, state_f, scratch_u,
-            );
-            buffers::zero_words(scratch_u);
-            buffers::zero_floats(scratch_f);
-            IterateAnswer::Iterated {
-                cost: c.cost,
-                new: c.new,
-            }
-        }
-    }
+    )?;
+    let counters = Counters {
+        lanes,
+        dimension,
+        n,
+    };
+    let counts = iterates::iterate_state(counters, k, s, draws, state_u, state_f, scratch_u);
+    buffers::zero_words(scratch_u);
+    buffers::zero_floats(scratch_f);
+    Ok(counts)
 }

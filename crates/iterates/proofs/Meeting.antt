@@ -4,11 +4,10 @@ use mathlib.Core.Bool.{true}
 use mathlib.Core.List.{List, ◌++◌}
 use Prim.Native.Nat.{ℕ, ◌*◌, ◌≤◌}
 use native.Mathlib.Omega.{arith}
-use lib.ListN.{length, take, drop, length-drop}
-use lib.Seq.{length-take-le, take-take, take_at}
+use lib.ListN.{length-append, length, take, drop, length-drop}
+use lib.Seq.{length-take-le, take_at}
 use lib.Ieee.{Float}
 use borrow.Rule.Slice.PartMut.{mid_of}
-use Rattle.rules.specs.Loops.{over}
 use Rattle.rules.specs.Build.{Between}
 use Rattle.rules.specs.Offers.{lists_formed}
 use Rattle.rules.specs.Descent.{Context, meet_all}
@@ -48,26 +47,38 @@ module _ {dimension n k : ℕ} {lanes : List Float} {us : List ℕ} {fs : List F
         counted = refl;
       }
 
-  module _ (ws : List ℕ) (room : 512 * n ≤ length ws) {ws' : List ℕ} {a : ℕ} (ea : a ≡ 260 * n) (copied : ws' ≡ over (260 * n) (mid_of (n * k) a us) ws) where
-    front : take (260 * n) ws' ≡ take (260 * n) (drop (n * k) us)
-    unfolding over
-    front =
+  module _ (ws : List ℕ) (room : 512 * n ≤ length ws) {cs : List ℕ} {a : ℕ} (ea : a ≡ 260 * n) (copied : cs ≡ mid_of (n * k) a us) where
+    abbrev ws' : List ℕ
+    ws' = cs ++ drop (260 * n) ws
+
+    cs_is : cs ≡ take (260 * n) (drop (n * k) us)
+    cs_is = copied ∙ rw ea refl
+
+    cs_long : length cs ≡ 260 * n
+    cs_long =
         let w = game.words in
         let d = length-drop (n * k) us in
-        let l = length-take-le (260 * n) (drop (n * k) us) (omega arith) in
-        ap (take (260 * n)) (copied ∙ rw ea (ap (λ (ys : List ℕ). ys ++ drop (260 * n) ws) (take-take (260 * n) (260 * n) (drop (n * k) us) (omega arith))))
-        ∙ take_at (take (260 * n) (drop (n * k) us)) (drop (260 * n) ws) (260 * n) l
+        ap length cs_is ∙ length-take-le (260 * n) (drop (n * k) us) (omega arith)
 
-    pub walkable_copy : 260 * n ≤ length ws' → ManyContexted n ws'
-    walkable_copy h = contexts_walkable n (n * k) us ws' front h lists_good
+    kept : length ws' ≡ length ws
+    kept = let l = cs_long in simp (length-append, length-drop) (omega arith)
 
-    pub met_in : (d : Between) {us' : List ℕ} {fs' : List Float} {cost : ℕ} → 260 * n ≤ length ws' → length ws' ≡ length ws → Does n k (n * 28672) (meet_all d n k (contexts_in n ws')) us fs 0 us' fs' cost
+    front : take (260 * n) ws' ≡ take (260 * n) (drop (n * k) us)
+    front = take_at cs (drop (260 * n) ws) (260 * n) cs_long ∙ cs_is
+
+    fits : 260 * n ≤ length ws'
+    fits = let l = kept in omega arith
+
+    pub walkable_copy : ManyContexted n ws'
+    walkable_copy = contexts_walkable n (n * k) us ws' front fits lists_good
+
+    pub met_in : (d : Between) {us' : List ℕ} {fs' : List Float} {cost : ℕ} → Does n k (n * 28672) (meet_all d n k (contexts_in n ws')) us fs 0 us' fs' cost
         → MetIn d n k us fs ws us' fs' ws' cost
     unfolding descent_in
-    met_in d {us'} {fs'} {cost} h l does =
+    met_in d {us'} {fs'} {cost} does =
         record {
-          held = subst (λ (cs : List Context). Holds n k (meet_all d n k cs (unmet (descent_in n k us fs))) us' fs' cost) (contexts_copied n (n * k) us ws' front h lists_good) (does.held (unmet (descent_in n k us fs)) unmet-holds);
+          held = subst (λ (cs : List Context). Holds n k (meet_all d n k cs (unmet (descent_in n k us fs))) us' fs' cost) (contexts_copied n (n * k) us ws' front fits lists_good) (does.held (unmet (descent_in n k us fs)) unmet-holds);
           words_long = does.words_long;
           floats_long = does.floats_long;
-          scratch_long = l;
+          scratch_long = kept;
         }

@@ -1,112 +1,69 @@
 -- One half of a job: its report and its measure at each of its steps. Assumes nothing.
-use mathlib.Core.Path.{◌≡◌, refl, sym}
-use mathlib.Core.Bool.{Bool, true, false, ◌&&◌}
-use Prim.Native.Nat.{ℕ, zero, suc, ◌≤◌, ◌<◌}
-use native.Mathlib.Nat.{not-suc-le-zero}
+use mathlib.Core.Path.{◌≡◌, refl, ap}
+use mathlib.Core.Bool.{Bool, true, false, not, ◌&&◌}
+use Prim.Native.Nat.{ℕ, zero, suc, ◌≤◌}
 use native.Mathlib.Omega.{arith}
-use borrow.Author.Tests.{eq-eqb, ne_eqb}
-use lib.Dec.{eqb}
+use borrow.Author.Tests.{le-leb, lt-leb}
+use lib.Dec.{eqb, leb}
+use Rattle.std.proofs.lemmas.Bool.Decides.{nat_tests}
 use Rattle.rules.specs.Relay.{taken_of, longer_of, bit}
 use Rattle.rules.specs.RelayPlaces.{stage_in, stage_formed, pending}
-use Rattle.rules.proofs.Tests.{and-false}
-use Rattle.jobs.specs.Jobs.{half_formed, PendingHalf}
+use Rattle.jobs.specs.Jobs.{half_formed}
 
 and-true : (b : Bool) → (b && true) ≡ b
 and-true true = refl
 and-true false = refl
 
--- ---- before its look
+-- ---- its report is 1 or 0, and 0 where the nodes are equal
 
-pub half_fresh : (equal : Bool) (taken longer : ℕ) → taken ≡ 0 → half_formed equal 0 taken longer ≡ eqb longer 0
+abbrev fair : Bool → ℕ → Bool
+fair equal taken = leb taken (bit (not equal))
+
+early : (equal : Bool) (t l : ℕ) → (eqb t (bit (eqb t 1)) && (eqb l 0 && not (equal && eqb t 1))) ≡ (fair equal t && eqb l 0)
+early true t l = grind (arith, nat_tests)
+early false t l = grind (arith, nat_tests)
+
+late : (equal : Bool) (t l : ℕ) → (eqb t (bit (eqb t 1)) && (eqb l (bit (eqb l 1)) && (not (equal && eqb t 1) && eqb (bit (eqb t 1)) (bit (eqb l 1))))) ≡ (fair equal t && eqb l t)
+late true t l = grind (arith, nat_tests)
+late false t l = grind (arith, nat_tests)
+
+-- before its look
+pub half_fresh : (equal : Bool) (steps taken longer : ℕ) → steps ≡ 0 → half_formed equal steps taken longer ≡ (eqb taken 0 && eqb longer 0)
 unfolding half_formed stage_in taken_of longer_of stage_formed
-half_fresh equal taken longer e = rw e (and-true (eqb longer 0))
+half_fresh equal steps taken longer s = rw s (ap (λ (b : Bool). eqb taken 0 && b) (and-true (eqb longer 0)))
 
-pub half_early : (equal : Bool) (taken longer : ℕ) → (taken ≡ 0 → ⊥) → half_formed equal 0 taken longer ≡ false
+-- before its measure
+pub half_looked : (equal : Bool) (steps taken longer : ℕ) → 1 ≤ steps → steps ≤ 2 → half_formed equal steps taken longer ≡ (fair equal taken && eqb longer 0)
 unfolding half_formed stage_in taken_of longer_of stage_formed
-half_early equal taken longer e = rw (ne_eqb taken 0 e)
+half_looked equal zero taken longer h l = absurd (omega arith)
+half_looked equal (suc zero) taken longer h l = early equal taken longer
+half_looked equal (suc (suc zero)) taken longer h l = early equal taken longer
+half_looked equal (suc (suc (suc s))) taken longer h l = absurd (omega arith)
 
--- ---- after it: a report is 1 or 0
-
-pub half_flag : (equal : Bool) (steps taken longer : ℕ) → 1 ≤ steps → 1 < taken → half_formed equal steps taken longer ≡ false
+-- behind it
+pub half_measured : (equal : Bool) (steps taken longer : ℕ) → 3 ≤ steps → half_formed equal steps taken longer ≡ (fair equal taken && eqb longer taken)
 unfolding half_formed stage_in taken_of longer_of stage_formed
-half_flag equal zero taken longer h l = absurd (not-suc-le-zero h)
-half_flag equal (suc zero) taken longer h l = rw (ne_eqb taken 1 (λ q. omega arith), ne_eqb taken 0 (λ q. omega arith))
-half_flag equal (suc (suc zero)) taken longer h l = rw (ne_eqb taken 1 (λ q. omega arith), ne_eqb taken 0 (λ q. omega arith))
-half_flag equal (suc (suc (suc zero))) taken longer h l = rw (ne_eqb taken 1 (λ q. omega arith), ne_eqb taken 0 (λ q. omega arith))
-half_flag equal (suc (suc (suc (suc s)))) taken longer h l = rw (ne_eqb taken 1 (λ q. omega arith), ne_eqb taken 0 (λ q. omega arith))
-
-pub half_equal : (steps longer : ℕ) → 1 ≤ steps → half_formed true steps 1 longer ≡ false
-unfolding half_formed stage_in taken_of longer_of stage_formed
-half_equal zero longer h = absurd (not-suc-le-zero h)
-half_equal (suc zero) longer h = and-false (eqb longer 0)
-half_equal (suc (suc zero)) longer h = and-false (eqb longer 0)
-half_equal (suc (suc (suc zero))) longer h = and-false (eqb longer (bit (eqb longer 1)))
-half_equal (suc (suc (suc (suc s)))) longer h = and-false (eqb longer (bit (eqb longer 1)))
-
-module _ (equal : Bool) where
-  pub half_looked : (steps taken longer : ℕ) → 1 ≤ steps → steps < 3 → taken ≤ 1 → (equal && eqb taken 1) ≡ false → half_formed equal steps taken longer ≡ eqb longer 0
-  unfolding half_formed stage_in taken_of longer_of stage_formed
-  half_looked zero taken longer h l t e = absurd (not-suc-le-zero h)
-  half_looked (suc zero) zero longer h l t e = rw e (and-true (eqb longer 0))
-  half_looked (suc zero) (suc zero) longer h l t e = rw e (and-true (eqb longer 0))
-  half_looked (suc zero) (suc (suc x)) longer h l t e = absurd (omega arith)
-  half_looked (suc (suc zero)) zero longer h l t e = rw e (and-true (eqb longer 0))
-  half_looked (suc (suc zero)) (suc zero) longer h l t e = rw e (and-true (eqb longer 0))
-  half_looked (suc (suc zero)) (suc (suc x)) longer h l t e = absurd (omega arith)
-  half_looked (suc (suc (suc s))) taken longer h l t e = absurd (omega arith)
-
-  pub half_measured : (steps taken longer : ℕ) → 3 ≤ steps → taken ≤ 1 → (equal && eqb taken 1) ≡ false → half_formed equal steps taken longer ≡ eqb longer taken
-  unfolding half_formed stage_in taken_of longer_of stage_formed
-  half_measured zero taken longer h t e = absurd (omega arith)
-  half_measured (suc zero) taken longer h t e = absurd (omega arith)
-  half_measured (suc (suc zero)) taken longer h t e = absurd (omega arith)
-  half_measured (suc (suc (suc zero))) zero zero h t e = rw e
-  half_measured (suc (suc (suc zero))) zero (suc zero) h t e = rw e
-  half_measured (suc (suc (suc zero))) zero (suc (suc y)) h t e = rw (ne_eqb (suc (suc y)) 1 (λ q. omega arith), ne_eqb (suc (suc y)) 0 (λ q. omega arith))
-  half_measured (suc (suc (suc zero))) (suc zero) zero h t e = rw e
-  half_measured (suc (suc (suc zero))) (suc zero) (suc zero) h t e = rw e
-  half_measured (suc (suc (suc zero))) (suc zero) (suc (suc y)) h t e = rw (ne_eqb (suc (suc y)) 1 (λ q. omega arith), ne_eqb (suc (suc y)) 0 (λ q. omega arith))
-  half_measured (suc (suc (suc zero))) (suc (suc x)) longer h t e = absurd (omega arith)
-  half_measured (suc (suc (suc (suc s)))) zero zero h t e = rw e
-  half_measured (suc (suc (suc (suc s)))) zero (suc zero) h t e = rw e
-  half_measured (suc (suc (suc (suc s)))) zero (suc (suc y)) h t e = rw (ne_eqb (suc (suc y)) 1 (λ q. omega arith), ne_eqb (suc (suc y)) 0 (λ q. omega arith))
-  half_measured (suc (suc (suc (suc s)))) (suc zero) zero h t e = rw e
-  half_measured (suc (suc (suc (suc s)))) (suc zero) (suc zero) h t e = rw e
-  half_measured (suc (suc (suc (suc s)))) (suc zero) (suc (suc y)) h t e = rw (ne_eqb (suc (suc y)) 1 (λ q. omega arith), ne_eqb (suc (suc y)) 0 (λ q. omega arith))
-  half_measured (suc (suc (suc (suc s)))) (suc (suc x)) longer h t e = absurd (omega arith)
+half_measured equal zero taken longer h = absurd (omega arith)
+half_measured equal (suc zero) taken longer h = absurd (omega arith)
+half_measured equal (suc (suc zero)) taken longer h = absurd (omega arith)
+half_measured equal (suc (suc (suc zero))) taken longer h = late equal taken longer
+half_measured equal (suc (suc (suc (suc s)))) taken longer h = late equal taken longer
 
 -- ---- pushed and not yet popped
 
-pub pending_none : (node w steps taken : ℕ) → (node ≡ w → ⊥) → PendingHalf node w steps taken 0
-pending_none node w steps taken e = record { is = λ (longer : Bool). rw (ne_eqb node w e); few = omega arith }
-
-not-pending : (steps : ℕ) (longer : Bool) → pending (stage_in steps false longer) ≡ 0
+pub pending_is : (steps : ℕ) (taken longer : Bool) → pending (stage_in steps taken longer) ≡ bit (taken && (leb 2 steps && leb steps 3))
 unfolding pending stage_in
-not-pending zero longer = refl
-not-pending (suc zero) longer = refl
-not-pending (suc (suc zero)) longer = refl
-not-pending (suc (suc (suc zero))) longer = refl
-not-pending (suc (suc (suc (suc s)))) longer = refl
+pending_is zero true longer = refl
+pending_is zero false longer = refl
+pending_is (suc zero) true longer = refl
+pending_is (suc zero) false longer = refl
+pending_is (suc (suc zero)) true longer = refl
+pending_is (suc (suc zero)) false longer = refl
+pending_is (suc (suc (suc zero))) true longer = refl
+pending_is (suc (suc (suc zero))) false longer = refl
+pending_is (suc (suc (suc (suc s)))) true longer = rw (lt-leb (suc (suc (suc (suc s)))) 3 (omega arith), le-leb 2 (suc (suc (suc (suc s)))) (omega arith))
+pending_is (suc (suc (suc (suc s)))) false longer = refl
 
-pub pending-left : (node w steps taken : ℕ) → node ≡ w → (taken ≡ 1 → ⊥) → PendingHalf node w steps taken 0
-pending-left node w steps taken e t =
-    record { is = λ (longer : Bool). rw (eq-eqb node w e, ne_eqb taken 1 t) (sym (not-pending steps longer)); few = omega arith }
+-- ---- what the tests of a half follow from
 
-pub pending-pushed : (node w taken : ℕ) → node ≡ w → taken ≡ 1 → PendingHalf node w 2 taken 1
-unfolding pending stage_in
-pending-pushed node w taken e t = record { is = λ (longer : Bool). rw (eq-eqb node w e, eq-eqb taken 1 t); few = omega arith }
-
-pub pending-measured : (node w taken : ℕ) → node ≡ w → taken ≡ 1 → PendingHalf node w 3 taken 1
-unfolding pending stage_in
-pending-measured node w taken e t = record { is = λ (longer : Bool). rw (eq-eqb node w e, eq-eqb taken 1 t); few = omega arith }
-
-pub pending-other : (node w steps taken : ℕ) → node ≡ w → (steps ≡ 2 → ⊥) → (steps ≡ 3 → ⊥) → PendingHalf node w steps taken 0
-unfolding pending stage_in
-pending-other node w steps taken e a b = record { is = λ (longer : Bool). rw (eq-eqb node w e) (sym (go steps (eqb taken 1) longer a b)); few = omega arith }
-  where
-    go : (s : ℕ) (t longer : Bool) → (s ≡ 2 → ⊥) → (s ≡ 3 → ⊥) → pending (stage_in s t longer) ≡ 0
-    go zero t longer a b = refl
-    go (suc zero) t longer a b = refl
-    go (suc (suc zero)) t longer a b = absurd (a refl)
-    go (suc (suc (suc zero))) t longer a b = absurd (b refl)
-    go (suc (suc (suc (suc s)))) t longer a b = refl
+pub ruleset half_laws = (half_fresh, half_looked, half_measured, pending_is, nat_tests)

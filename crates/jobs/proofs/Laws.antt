@@ -1,13 +1,13 @@
 -- The words of a job. Assumes nothing.
-use mathlib.Core.Path.{◌≡◌, refl, sym, ap, ◌∙◌}
+use mathlib.Core.Path.{◌≡◌, refl, sym, ◌∙◌}
 use mathlib.Core.Bool.{Bool, true, false, ◌&&◌}
 use mathlib.Core.List.{List, [], ◌∷◌}
-use Prim.Native.Nat.{ℕ, zero, suc, ◌+◌, ◌-◌, ◌≤◌, ◌<◌}
+use Prim.Native.Nat.{ℕ, zero, suc, ◌+◌, ◌-◌, ◌≤◌}
 use native.Mathlib.Omega.{arith}
-use borrow.Author.Tests.{eq-eqb, ne_eqb, le-leb, lt-leb, lt-ltb, le-ltb}
+use borrow.Author.Tests.{eq-eqb, ne_eqb, lt-leb}
 use lib.Dec.{eqb, leb, ltb}
 use lib.ListN.{length, take, drop, get_or}
-use lib.Ieee.{Float, nan, binary32, to_bits}
+use lib.Ieee.{Float, nan, inf, fin, is_nan, to_bits}
 use Rattle.rules.specs.Distance.{fit}
 use Rattle.rules.specs.Relay.{steps_of, taken_of, longer_of, bit}
 use Rattle.rules.specs.Places.{padded, same_words}
@@ -94,77 +94,31 @@ fifteen n x u v s t l t' l' z0 z1 z2 z3 z4 z5 z6 z7 ws =
     (zeros (z0 ∷ z1 ∷ z2 ∷ z3 ∷ z4 ∷ z5 ∷ z6 ∷ z7 ∷ [])) (ltb u n && ltb v n) (distance_formed (eqb u v) x) (stage_formed (eqb u v) first) (stage_formed (eqb u v) second))
 
 -- a list of m and more begins with m
-pub job-test : (n : ℕ) (ws : List ℕ) (x : Float) → 15 ≤ length ws → job_test n ws x ≡ tested n ws x
-job-test n (u ∷ v ∷ s ∷ t ∷ l ∷ t' ∷ l' ∷ z0 ∷ z1 ∷ z2 ∷ z3 ∷ z4 ∷ z5 ∷ z6 ∷ z7 ∷ ws) x h = fifteen n x u v s t l t' l' z0 z1 z2 z3 z4 z5 z6 z7 ws
-job-test n [] x h = absurd (omega arith)
-job-test n (u ∷ []) x h = absurd (omega arith)
-job-test n (u ∷ v ∷ []) x h = absurd (omega arith)
-job-test n (u ∷ v ∷ s ∷ []) x h = absurd (omega arith)
-job-test n (u ∷ v ∷ s ∷ t ∷ []) x h = absurd (omega arith)
-job-test n (u ∷ v ∷ s ∷ t ∷ l ∷ []) x h = absurd (omega arith)
-job-test n (u ∷ v ∷ s ∷ t ∷ l ∷ t' ∷ []) x h = absurd (omega arith)
-job-test n (u ∷ v ∷ s ∷ t ∷ l ∷ t' ∷ l' ∷ []) x h = absurd (omega arith)
-job-test n (u ∷ v ∷ s ∷ t ∷ l ∷ t' ∷ l' ∷ z0 ∷ []) x h = absurd (omega arith)
-job-test n (u ∷ v ∷ s ∷ t ∷ l ∷ t' ∷ l' ∷ z0 ∷ z1 ∷ []) x h = absurd (omega arith)
-job-test n (u ∷ v ∷ s ∷ t ∷ l ∷ t' ∷ l' ∷ z0 ∷ z1 ∷ z2 ∷ []) x h = absurd (omega arith)
-job-test n (u ∷ v ∷ s ∷ t ∷ l ∷ t' ∷ l' ∷ z0 ∷ z1 ∷ z2 ∷ z3 ∷ []) x h = absurd (omega arith)
-job-test n (u ∷ v ∷ s ∷ t ∷ l ∷ t' ∷ l' ∷ z0 ∷ z1 ∷ z2 ∷ z3 ∷ z4 ∷ []) x h = absurd (omega arith)
-job-test n (u ∷ v ∷ s ∷ t ∷ l ∷ t' ∷ l' ∷ z0 ∷ z1 ∷ z2 ∷ z3 ∷ z4 ∷ z5 ∷ []) x h = absurd (omega arith)
-job-test n (u ∷ v ∷ s ∷ t ∷ l ∷ t' ∷ l' ∷ z0 ∷ z1 ∷ z2 ∷ z3 ∷ z4 ∷ z5 ∷ z6 ∷ []) x h = absurd (omega arith)
-
--- ---- the tests one after another
-
-module _ (n : ℕ) (ws : List ℕ) (x : Float) (long : 15 ≤ length ws) where
-  abbrev same : Bool
-  same = eqb (get_or ws 0 0) (get_or ws 1 0)
-
-  pub by_steps : 8 < get_or ws 2 0 → false ≡ job_test n ws x
-  by_steps h = sym (job-test n ws x long ∙ rw (lt-leb (get_or ws 2 0) 8 h))
-
-  module _ (few : get_or ws 2 0 ≤ 8) where
-    pub by_first : half_formed same (get_or ws 2 0) (get_or ws 3 0) (get_or ws 4 0) ≡ false → false ≡ job_test n ws x
-    by_first h = sym (job-test n ws x long ∙ rw (le-leb (get_or ws 2 0) 8 few, h))
-
-    -- m steps of the second half are done
-    module _ (first : half_formed same (get_or ws 2 0) (get_or ws 3 0) (get_or ws 4 0) ≡ true) (m : ℕ) (cut : m ≡ get_or ws 2 0 - 4) where
-      second_is : half_formed same m (get_or ws 5 0) (get_or ws 6 0) ≡ half_formed same (get_or ws 2 0 - 4) (get_or ws 5 0) (get_or ws 6 0)
-      second_is = ap (λ (i : ℕ). half_formed same i (get_or ws 5 0) (get_or ws 6 0)) cut
-
-      pub by_second : half_formed same m (get_or ws 5 0) (get_or ws 6 0) ≡ false → false ≡ job_test n ws x
-      by_second h = sym (job-test n ws x long ∙ rw (le-leb (get_or ws 2 0) 8 few, first, sym second_is ∙ h))
-
-      module _ (later : half_formed same m (get_or ws 5 0) (get_or ws 6 0) ≡ true) where
-        pub by_spare : zeros (take 8 (drop 7 ws)) ≡ false → false ≡ job_test n ws x
-        by_spare h = sym (job-test n ws x long ∙ rw (le-leb (get_or ws 2 0) 8 few, first, sym second_is ∙ later, h))
-
-        module _ (spare : zeros (take 8 (drop 7 ws)) ≡ true) where
-          pub by_u : n ≤ get_or ws 0 0 → false ≡ job_test n ws x
-          by_u h = sym (job-test n ws x long ∙ rw (le-leb (get_or ws 2 0) 8 few, first, sym second_is ∙ later, spare, le-ltb (get_or ws 0 0) n h))
-
-          pub by_v : get_or ws 0 0 < n → n ≤ get_or ws 1 0 → false ≡ job_test n ws x
-          by_v g h =
-              sym (job-test n ws x long
-              ∙ rw (le-leb (get_or ws 2 0) 8 few, first, sym second_is ∙ later, spare, lt-ltb (get_or ws 0 0) n g, le-ltb (get_or ws 1 0) n h))
-
-          pub by_distance : get_or ws 0 0 < n → get_or ws 1 0 < n → distance_formed same x ≡ job_test n ws x
-          by_distance g h =
-              sym (job-test n ws x long
-              ∙ rw (le-leb (get_or ws 2 0) 8 few, first, sym second_is ∙ later, spare, lt-ltb (get_or ws 0 0) n g, lt-ltb (get_or ws 1 0) n h))
+pub job_is : (n : ℕ) (ws : List ℕ) (x : Float) → 15 ≤ length ws → job_test n ws x ≡ tested n ws x
+job_is n (u ∷ v ∷ s ∷ t ∷ l ∷ t' ∷ l' ∷ z0 ∷ z1 ∷ z2 ∷ z3 ∷ z4 ∷ z5 ∷ z6 ∷ z7 ∷ ws) x h = fifteen n x u v s t l t' l' z0 z1 z2 z3 z4 z5 z6 z7 ws
+job_is n [] x h = absurd (omega arith)
+job_is n (u ∷ []) x h = absurd (omega arith)
+job_is n (u ∷ v ∷ []) x h = absurd (omega arith)
+job_is n (u ∷ v ∷ s ∷ []) x h = absurd (omega arith)
+job_is n (u ∷ v ∷ s ∷ t ∷ []) x h = absurd (omega arith)
+job_is n (u ∷ v ∷ s ∷ t ∷ l ∷ []) x h = absurd (omega arith)
+job_is n (u ∷ v ∷ s ∷ t ∷ l ∷ t' ∷ []) x h = absurd (omega arith)
+job_is n (u ∷ v ∷ s ∷ t ∷ l ∷ t' ∷ l' ∷ []) x h = absurd (omega arith)
+job_is n (u ∷ v ∷ s ∷ t ∷ l ∷ t' ∷ l' ∷ z0 ∷ []) x h = absurd (omega arith)
+job_is n (u ∷ v ∷ s ∷ t ∷ l ∷ t' ∷ l' ∷ z0 ∷ z1 ∷ []) x h = absurd (omega arith)
+job_is n (u ∷ v ∷ s ∷ t ∷ l ∷ t' ∷ l' ∷ z0 ∷ z1 ∷ z2 ∷ []) x h = absurd (omega arith)
+job_is n (u ∷ v ∷ s ∷ t ∷ l ∷ t' ∷ l' ∷ z0 ∷ z1 ∷ z2 ∷ z3 ∷ []) x h = absurd (omega arith)
+job_is n (u ∷ v ∷ s ∷ t ∷ l ∷ t' ∷ l' ∷ z0 ∷ z1 ∷ z2 ∷ z3 ∷ z4 ∷ []) x h = absurd (omega arith)
+job_is n (u ∷ v ∷ s ∷ t ∷ l ∷ t' ∷ l' ∷ z0 ∷ z1 ∷ z2 ∷ z3 ∷ z4 ∷ z5 ∷ []) x h = absurd (omega arith)
+job_is n (u ∷ v ∷ s ∷ t ∷ l ∷ t' ∷ l' ∷ z0 ∷ z1 ∷ z2 ∷ z3 ∷ z4 ∷ z5 ∷ z6 ∷ []) x h = absurd (omega arith)
 
 -- ---- the stored distance
 
-module _ (x : Float) where
-  pub distance_equal : distance_formed true x ≡ eqb (to_bits binary32 x) 0
-  unfolding distance_formed
-  distance_equal = refl
-
-  pub distance-nan : x ≡ nan → distance_formed false x ≡ false
-  unfolding distance_formed fit to_bits
-  distance-nan e = rw e
-
-  pub distance-fit : distance_formed false x ≡ leb (to_bits binary32 x) 0x7F7FFFFE
-  unfolding distance_formed fit
-  distance-fit = refl
+pub distance_nan : (x : Float) → is_nan x ≡ true → distance_formed false x ≡ false
+unfolding distance_formed fit to_bits is_nan
+distance_nan nan e = refl
+distance_nan (inf s) e = cc
+distance_nan (fin s m d) e = cc
 
 -- ---- both halves
 

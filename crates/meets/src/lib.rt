@@ -2,10 +2,11 @@
 #![tactic(auto)]
 
 ghost use Rattle.std.specs.Prelude.{◌*◌, ◌≤◌, ◌<◌, length};
-ghost use Rattle.rules.specs.Distance.{between};
 ghost use Rattle.rules.specs.Descent.{pair, meet};
+ghost use Rattle.metrics.specs.Counters.{between};
 ghost use Rattle.meets.specs.Meets.{OfferedIn, Updated, Game, Does};
 
+use metrics::Counters;
 use rules::{Neighbor, NodeId};
 
 // Offers `e` to the list of node `u`, one of `n` lists of `k` entries.
@@ -20,22 +21,21 @@ fn offer_to(nodes: &mut [u32], dists: &mut [f32], n: usize, k: usize, u: NodeId,
 
 /// Offers each of two nodes to the other's list, unless they are equal, and returns 1 where they are not (hora's `update`).
 pub fn update(
-    lanes: &[f32],
-    dimension: usize,
-    n: usize,
+    counters: Counters<'_>,
     k: usize,
     u: NodeId,
     v: NodeId,
     nodes: &mut [u32],
     dists: &mut [f32],
 ) -> usize
-    requires { Game dimension n k lanes.now nodes.old dists.old × (u.0 < n) × (v.0 < n) }
-    ensures { Updated (between lanes.now dimension) n k u.0 v.0 nodes.old dists.old nodes.new dists.new result }
+    requires { Game counters.dimension counters.n k counters.lanes.now nodes.old dists.old × (u.0 < counters.n) × (v.0 < counters.n) }
+    ensures { Updated (between counters.entry) counters.entry.n k u.0 v.0 nodes.old dists.old nodes.new dists.new result }
 {
     if u.0 == v.0 {
         return 0;
     }
-    let distance = metrics::between(lanes, dimension, u, v);
+    let n = counters.n;
+    let distance = counters.between(u, v);
     offer_to(nodes, dists, n, k, u, Neighbor { node: v, distance });
     offer_to(nodes, dists, n, k, v, Neighbor { node: u, distance });
     1
@@ -43,9 +43,7 @@ pub fn update(
 
 /// Updates the lists of two nodes and marks them visited both ways; returns the cost so far with this pair's.
 pub fn meet(
-    lanes: &[f32],
-    dimension: usize,
-    n: usize,
+    counters: Counters<'_>,
     k: usize,
     u: NodeId,
     v: NodeId,
@@ -53,10 +51,11 @@ pub fn meet(
     floats: &mut [f32],
     cost: usize,
 ) -> usize
-    requires { Game dimension n k lanes.now words.old floats.old × (u.0 < n) × (v.0 < n) × (cost ≤ 1099511627776) }
-    ensures { Does n k 1 (meet (between lanes.now dimension) n k (pair u.0 v.0)) words.old floats.old cost words.new floats.new result }
+    requires { Game counters.dimension counters.n k counters.lanes.now words.old floats.old × (u.0 < counters.n) × (v.0 < counters.n) × (cost ≤ 1099511627776) }
+    ensures { Does counters.entry.n k 1 (meet (between counters.entry) counters.entry.n k (pair u.0 v.0)) words.old floats.old cost words.new floats.new result }
 {
-    let one = update(lanes, dimension, n, k, u, v, words, floats);
+    let n = counters.n;
+    let one = update(counters, k, u, v, words, floats);
     let base = n * k + 260 * n;
     visits::visit(words, base, n, u, v);
     visits::visit(words, base, n, v, u);

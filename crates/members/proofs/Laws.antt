@@ -1,52 +1,26 @@
 -- A context list in its 65 words. Assumes nothing.
 use mathlib.Core.Path.{◌≡◌, refl, sym, ap, ◌∙◌}
-use mathlib.Core.List.{List, [], ◌∷◌, ◌++◌, append_assoc, append-nil}
-use Prim.Native.Nat.{ℕ, zero, suc, ◌+◌, ◌-◌, ◌≤◌, ◌<◌}
+use mathlib.Core.List.{List, [], ◌∷◌, ◌++◌, append_assoc}
+use Prim.Native.Nat.{ℕ, zero, suc, ◌+◌, ◌≤◌, ◌<◌}
 use native.Mathlib.Omega.{arith}
-use lib.ListN.{length, take, drop, set, replicate, length-replicate, length-set, length-drop}
-use lib.Seq.{take-length, take-take, length-take-le}
-use borrow.Rule.Slice.PartMut.{put_mid, same_len_mid}
-use Rattle.rules.specs.Loops.{turns, over}
+use lib.ListN.{length, take, drop, set, replicate}
+use lib.Seq.{take-take}
+use borrow.Rule.Slice.PartMut.{put_mid}
+use Rattle.rules.specs.Loops.{turns}
 use Rattle.rules.specs.Places.{padded}
 use Rattle.rules.specs.Descent.{Context}
 use Rattle.rules.specs.DescentPlaces.{member_words, context_words}
 use Rattle.rules.proofs.Places.{drop-replicate}
 
-pub put : (src dst ys : List ℕ) (w : ℕ) → length dst ≡ 65 → w ≡ 64 → ys ≡ over (length src) src (take w (drop 1 (set (replicate (length dst) 0) 0 (length src))))
-    → put_mid 1 w (set (replicate (length dst) 0) 0 (length src)) ys ≡ member_words src
-unfolding member_words padded over
-put src dst ys w l e f =
+-- zeros, the length put at their front, and the members behind it
+pub put : (src dst zs ys : List ℕ) (w : ℕ) → length dst ≡ 65 → zs ≡ replicate (length dst) 0 → w ≡ length src → ys ≡ src → put_mid 1 w (set zs 0 (length src)) ys ≡ member_words src
+unfolding member_words padded
+put src dst zs ys w l z e f =
     let n = length src in
-    let g : ys ≡ src ++ replicate (64 - n) 0 =
-    f ∙ ap (λ (m : ℕ). take n src ++ drop n (take w (drop 1 (set (replicate m 0) 0 n)))) l
-    ∙ ap (λ (m : ℕ). take n src ++ drop n (take m (replicate 64 0))) e
-    ∙ ap (λ (zs : List ℕ). zs ++ drop n (replicate 64 0)) (take-length src)
-    ∙ ap (λ (zs : List ℕ). src ++ zs) (drop-replicate n 64 0) in
-    ap (λ (m : ℕ). put_mid 1 w (set (replicate m 0) 0 n) ys) l
+    ap (λ (l : List ℕ). put_mid 1 w (set l 0 n) ys) (z ∙ ap (λ (m : ℕ). replicate m 0) l)
     ∙ ap (λ (m : ℕ). n ∷ (ys ++ drop m (replicate 64 0))) e
-    ∙ ap (λ (zs : List ℕ). n ∷ zs) (append-nil ys ∙ g)
-
--- the words zeroed first
-module _ (dst : List ℕ) {zs : List ℕ} (long : length dst ≡ 65) (zeroed : zs ≡ replicate (length dst) 0) (n : ℕ) where
-  pub set_long : length (set zs 0 n) ≡ 65
-  set_long = length-set zs 0 n ∙ ap length zeroed ∙ length-replicate {A = ℕ} (length dst) 0 ∙ long
-
-  pub part-long : length (take (length (set zs 0 n) - 1) (drop 1 (set zs 0 n))) ≡ 64
-  part-long =
-      let e = set_long in
-      length-take-le (length (set zs 0 n) - 1) (drop 1 (set zs 0 n)) (let f = length-drop 1 (set zs 0 n) in omega arith) ∙ omega arith
-
-  pub put-long : (ys : List ℕ) → length ys ≡ length (take (length (set zs 0 n) - 1) (drop 1 (set zs 0 n))) → length (put_mid 1 (length (set zs 0 n) - 1) (set zs 0 n) ys) ≡ length dst
-  put-long ys e = same_len_mid 1 (length (set zs 0 n) - 1) (set zs 0 n) ys e ∙ set_long ∙ sym long
-
-pub put_zeroed : (src dst zs ys : List ℕ) → length dst ≡ 65 → zs ≡ replicate (length dst) 0 → ys ≡ over (length src) src (take (length (set zs 0 (length src)) - 1) (drop 1 (set zs 0 (length src))))
-    → put_mid 1 (length (set zs 0 (length src)) - 1) (set zs 0 (length src)) ys ≡ member_words src
-put_zeroed src dst zs ys l z f =
-    let n = length src in
-    let s = set_long dst l z n in
-    let w : length (set zs 0 n) - 1 ≡ 64 = omega arith in
-    ap (λ (l : List ℕ). put_mid 1 (length (set zs 0 n) - 1) (set l 0 n) ys) z
-    ∙ put src dst ys (length (set zs 0 n) - 1) l w (f ∙ ap (λ (l : List ℕ). over n src (take (length (set zs 0 n) - 1) (drop 1 (set l 0 n)))) z)
+    ∙ ap (λ (l : List ℕ). n ∷ (l ++ drop n (replicate 64 0))) f
+    ∙ ap (λ (l : List ℕ). n ∷ (src ++ l)) (drop-replicate n 64 0)
 
 -- a part of a part
 pub area_in : {A : Type 0} (a m c : ℕ) (xs : List A) → a + m ≤ c → take m (drop a (take c xs)) ≡ take m (drop a xs)

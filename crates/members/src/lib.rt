@@ -10,7 +10,7 @@ pub fn put_members(src: &[u32], dst: &mut [u32])
     ensures { dst.new ≡ member_words src.now }
 {
     let len = src.len();
-    buffers::zero_words(dst);
+    dst.fill(0);
     dst[0] = len as u32;
-    buffers::copy_words(len, src, &mut dst[1..]);
+    dst[1..=len].copy_from_slice(src);
 }

@@ -1,13 +1,13 @@
 -- The lists of a context in lent words. Assumes nothing.
 use mathlib.Core.Path.{◌≡◌, sym, ap, ◌∙◌}
 use mathlib.Core.List.{List, [], ◌∷◌}
-use Prim.Native.Nat.{ℕ, zero, suc, ◌+◌, ◌-◌, ◌≤◌, ◌<◌}
+use Prim.Native.Nat.{ℕ, zero, suc, ◌+◌, ◌-◌, ◌≤◌}
 use native.Mathlib.Omega.{arith}
 use lib.ListN.{length, take, drop, get_or, length-drop}
 use lib.Seq.{take-take, drop-drop, get_or-drop}
 use Rattle.rules.specs.DescentPlaces.{members_in}
 use Rattle.rules.proofs.Places.{length-members}
-use Rattle.lists.proofs.Plain.{all-at, to_end}
+use Rattle.lists.proofs.Plain.{to_end}
 use Rattle.passes.specs.Passes.{Below, Short, Members, MembersOf, Contexted}
 
 pub members-short : {n : ℕ} {us : List ℕ} → Members n us → Short n (members_in us)
@@ -40,9 +40,6 @@ members-room us at h =
     let e = length-drop at us in
     record { room = omega arith; few = omega arith }
 
-pub short-at : {n : ℕ} {vs : List ℕ} (i : ℕ) → Short n vs → i < length vs → get_or vs i 0 < n
-short-at {n} {vs} i h l = all-at (λ (v : ℕ). v < n) vs i 0 h.below l
-
 pub short-drop : {n : ℕ} {vs : List ℕ} (i : ℕ) → Short n vs → Short n (drop i vs)
 short-drop {n} {vs} i h =
     let few = h.few in
@@ -55,8 +52,5 @@ short-drop {n} {vs} i h =
     all_drop (suc i) (v ∷ vs) X = all_drop i vs X.1
 
 -- the part from a place on, as the code cuts it out
-pub short-end : {n : ℕ} {vs : List ℕ} (i : ℕ) → Short n vs → Short n (take (length vs - i) (drop i vs))
-short-end {n} {vs} i h = rw (to_end i vs) (short-drop i h)
-
 pub contexted_end : {n : ℕ} (us : List ℕ) (i : ℕ) → Contexted n (drop i us) → Contexted n (take (length us - i) (drop i us))
 contexted_end us i h = rw (to_end i us) h

@@ -3,29 +3,26 @@
 
 ghost use Rattle.std.specs.Prelude.{◌≡◌, ◌*◌, ◌≤◌, ◌<◌, length, drop};
 ghost use Rattle.rules.specs.Loops.{through};
-ghost use Rattle.rules.specs.Distance.{between};
 ghost use Rattle.rules.specs.Descent.{meet, meet_all, cross, passes};
 ghost use Rattle.rules.specs.DescentPlaces.{context_in};
+ghost use Rattle.metrics.specs.Counters.{between};
 ghost use Rattle.meets.specs.Meets.{Game, Does};
 ghost use Rattle.passes.specs.Passes.{Short, Members, MembersOf, Contexted, joins, one_pair, row_pairs, first_of, Within, pass_pairs, early_pairs, late_pairs, contexts_in, ManyContexted};
 
+use metrics::Counters;
 use rules::NodeId;
 
 // Whether `u` meets `v`: always, or only where the smaller node comes first.
+#[tactic(auto, unfolding(crate::specs::Passes::joins))]
 fn joins(rising: bool, u: NodeId, v: NodeId) -> bool
     ensures { result ≡ joins rising u.0 v.0 }
 {
-    if rising {
-        return u.0 < v.0;
-    }
-    true
+    !rising || u.0 < v.0
 }
 
 // A pair meets, or is passed over.
 fn meet_one(
-    lanes: &[f32],
-    dimension: usize,
-    n: usize,
+    counters: Counters<'_>,
     k: usize,
     rising: bool,
     u: NodeId,
@@ -34,20 +31,18 @@ fn meet_one(
     floats: &mut [f32],
     cost: usize,
 ) -> usize
-    requires { Game dimension n k lanes.now words.old floats.old × (u.0 < n) × (v.0 < n) × (cost ≤ 1099511627776) }
-    ensures { Does n k 1 (through (meet (between lanes.now dimension) n k) (one_pair rising u.0 v.0)) words.old floats.old cost words.new floats.new result }
+    requires { Game counters.dimension counters.n k counters.lanes.now words.old floats.old × (u.0 < counters.n) × (v.0 < counters.n) × (cost ≤ 1099511627776) }
+    ensures { Does counters.entry.n k 1 (through (meet (between counters.entry) counters.entry.n k) (one_pair rising u.0 v.0)) words.old floats.old cost words.new floats.new result }
 {
     if joins(rising, u, v) {
-        return meets::meet(lanes, dimension, n, k, u, v, words, floats, cost);
+        return meets::meet(counters, k, u, v, words, floats, cost);
     }
     cost
 }
 
 // Node `u` meets each of `vs`, or each that is greater.
 fn meet_row(
-    lanes: &[f32],
-    dimension: usize,
-    n: usize,
+    counters: Counters<'_>,
     k: usize,
     rising: bool,
     u: NodeId,
@@ -56,38 +51,33 @@ fn meet_row(
     floats: &mut [f32],
     cost: usize,
 ) -> usize
-    requires { Game dimension n k lanes.now words.old floats.old × (u.0 < n) × Short n vs.now × (cost ≤ 1073741824) }
-    ensures { Does n k (length vs.now) (through (meet (between lanes.now dimension) n k) (row_pairs rising u.0 vs.now)) words.old floats.old cost words.new floats.new result }
+    requires { Game counters.dimension counters.n k counters.lanes.now words.old floats.old × (u.0 < counters.n) × Short counters.n vs.now × (cost ≤ 1073741824) }
+    ensures { Does counters.entry.n k (length vs.now) (through (meet (between counters.entry) counters.entry.n k) (row_pairs rising u.0 vs.now)) words.old floats.old cost words.new floats.new result }
 {
     let mut total = cost;
-    let mut i: usize = 0;
-    while i < vs.len() {
-        let v = NodeId(vs[i]);
-        total = meet_one(lanes, dimension, n, k, rising, u, v, words, floats, total);
-        i += 1;
+    for &v in vs {
+        let v = NodeId(v);
+        total = meet_one(counters, k, rising, u, v, words, floats, total);
     }
     total
 }
 
 // The place of the first partner of the node at place `i`: a node never rises to itself.
+#[tactic(auto, unfolding(crate::specs::Passes::first_of))]
 fn first(behind: bool, rising: bool, i: usize) -> usize
     requires { i ≤ 64 }
     ensures { result ≡ first_of behind rising i }
 {
-    if behind {
-        if rising {
-            return i + 1;
-        }
-        return i;
+    match (behind, rising) {
+        (true, true) => i + 1,
+        (true, false) => i,
+        (false, _) => 0,
     }
-    0
 }
 
 // Each of `us` meets its partners among `vs`: all of them, or, where the two are one list (`behind`), those from its own place on, and greater ones alone where pairs have to rise.
 fn pass(
-    lanes: &[f32],
-    dimension: usize,
-    n: usize,
+    counters: Counters<'_>,
     k: usize,
     behind: bool,
     rising: bool,
@@ -97,36 +87,29 @@ fn pass(
     floats: &mut [f32],
     cost: usize,
 ) -> usize
-    requires { Game dimension n k lanes.now words.old floats.old × Short n us.now × Short n vs.now × Within behind rising us.now vs.now × (cost ≤ 536870912) }
-    ensures { Does n k 4096 (through (meet (between lanes.now dimension) n k) (pass_pairs behind rising us.now vs.now)) words.old floats.old cost words.new floats.new result }
+    requires { Game counters.dimension counters.n k counters.lanes.now words.old floats.old × Short counters.n us.now × Short counters.n vs.now × Within behind rising us.now vs.now × (cost ≤ 536870912) }
+    ensures { Does counters.entry.n k 4096 (through (meet (between counters.entry) counters.entry.n k) (pass_pairs behind rising us.now vs.now)) words.old floats.old cost words.new floats.new result }
 {
     let mut total = cost;
-    let mut i: usize = 0;
-    while i < us.len() {
-        let u = NodeId(us[i]);
+    for (i, &u) in us.iter().enumerate() {
         let from = first(behind, rising, i);
         total = meet_row(
-            lanes,
-            dimension,
-            n,
+            counters,
             k,
             rising,
-            u,
+            NodeId(u),
             &vs[from..],
             words,
             floats,
             total,
         );
-        i += 1;
     }
     total
 }
 
 // Each of `us` meets each of `vs`.
 fn cross(
-    lanes: &[f32],
-    dimension: usize,
-    n: usize,
+    counters: Counters<'_>,
     k: usize,
     us: &[u32],
     vs: &[u32],
@@ -134,19 +117,15 @@ fn cross(
     floats: &mut [f32],
     cost: usize,
 ) -> usize
-    requires { Game dimension n k lanes.now words.old floats.old × Short n us.now × Short n vs.now × (cost ≤ 536870912) }
-    ensures { Does n k 4096 (through (meet (between lanes.now dimension) n k) (cross us.now vs.now)) words.old floats.old cost words.new floats.new result }
+    requires { Game counters.dimension counters.n k counters.lanes.now words.old floats.old × Short counters.n us.now × Short counters.n vs.now × (cost ≤ 536870912) }
+    ensures { Does counters.entry.n k 4096 (through (meet (between counters.entry) counters.entry.n k) (cross us.now vs.now)) words.old floats.old cost words.new floats.new result }
 {
-    pass(
-        lanes, dimension, n, k, false, false, us, vs, words, floats, cost,
-    )
+    pass(counters, k, false, false, us, vs, words, floats, cost)
 }
 
 // The first three passes: new with new from the same place on, new with old, and reversed-new with later and greater reversed-new.
 fn early_passes(
-    lanes: &[f32],
-    dimension: usize,
-    n: usize,
+    counters: Counters<'_>,
     k: usize,
     new: &[u32],
     old: &[u32],
@@ -155,17 +134,13 @@ fn early_passes(
     floats: &mut [f32],
     cost: usize,
 ) -> usize
-    requires { Game dimension n k lanes.now words.old floats.old × Short n new.now × Short n old.now × Short n reversed_new.now × (cost ≤ 402653184) }
-    ensures { Does n k 12288 (through (meet (between lanes.now dimension) n k) (early_pairs new.now old.now reversed_new.now)) words.old floats.old cost words.new floats.new result }
+    requires { Game counters.dimension counters.n k counters.lanes.now words.old floats.old × Short counters.n new.now × Short counters.n old.now × Short counters.n reversed_new.now × (cost ≤ 402653184) }
+    ensures { Does counters.entry.n k 12288 (through (meet (between counters.entry) counters.entry.n k) (early_pairs new.now old.now reversed_new.now)) words.old floats.old cost words.new floats.new result }
 {
-    let a = pass(
-        lanes, dimension, n, k, true, false, new, new, words, floats, cost,
-    );
-    let b = cross(lanes, dimension, n, k, new, old, words, floats, a);
+    let a = pass(counters, k, true, false, new, new, words, floats, cost);
+    let b = cross(counters, k, new, old, words, floats, a);
     pass(
-        lanes,
-        dimension,
-        n,
+        counters,
         k,
         true,
         true,
@@ -179,9 +154,7 @@ fn early_passes(
 
 // The last four passes: reversed-new with reversed-old, new with both, and old with reversed-new.
 fn late_passes(
-    lanes: &[f32],
-    dimension: usize,
-    n: usize,
+    counters: Counters<'_>,
     k: usize,
     new: &[u32],
     old: &[u32],
@@ -191,27 +164,17 @@ fn late_passes(
     floats: &mut [f32],
     cost: usize,
 ) -> usize
-    requires { Game dimension n k lanes.now words.old floats.old × Short n new.now × Short n old.now × Short n reversed_new.now × Short n reversed_old.now × (cost ≤ 402653184) }
-    ensures { Does n k 16384 (through (meet (between lanes.now dimension) n k) (late_pairs new.now old.now reversed_new.now reversed_old.now)) words.old floats.old cost words.new floats.new result }
+    requires { Game counters.dimension counters.n k counters.lanes.now words.old floats.old × Short counters.n new.now × Short counters.n old.now × Short counters.n reversed_new.now × Short counters.n reversed_old.now × (cost ≤ 402653184) }
+    ensures { Does counters.entry.n k 16384 (through (meet (between counters.entry) counters.entry.n k) (late_pairs new.now old.now reversed_new.now reversed_old.now)) words.old floats.old cost words.new floats.new result }
 {
-    let a = cross(
-        lanes,
-        dimension,
-        n,
-        k,
-        reversed_new,
-        reversed_old,
-        words,
-        floats,
-        cost,
-    );
-    let b = cross(lanes, dimension, n, k, new, reversed_old, words, floats, a);
-    let c = cross(lanes, dimension, n, k, new, reversed_new, words, floats, b);
-    cross(lanes, dimension, n, k, old, reversed_new, words, floats, c)
+    let a = cross(counters, k, reversed_new, reversed_old, words, floats, cost);
+    let b = cross(counters, k, new, reversed_old, words, floats, a);
+    let c = cross(counters, k, new, reversed_new, words, floats, b);
+    cross(counters, k, old, reversed_new, words, floats, c)
 }
 
 // A context list: the length at `at`, and behind it the members.
-fn members_at<'a>(context: &'a [u32], n: usize, at: usize) -> &'a [u32]
+fn members_at(context: &[u32], n: usize, at: usize) -> &[u32]
     requires { Members n (drop at context.now) × (at ≤ 195) }
     ensures { MembersOf n (drop at context.now) result.now }
 {
@@ -222,38 +185,23 @@ fn members_at<'a>(context: &'a [u32], n: usize, at: usize) -> &'a [u32]
 
 /// The seven passes over one context, in order (hora's `iterate_nn`).
 pub fn passes(
-    lanes: &[f32],
-    dimension: usize,
-    n: usize,
+    counters: Counters<'_>,
     k: usize,
     context: &[u32],
     words: &mut [u32],
     floats: &mut [f32],
     cost: usize,
 ) -> usize
-    requires { Game dimension n k lanes.now words.old floats.old × Contexted n context.now × (cost ≤ 268435456) }
-    ensures { Does n k 28672 (through (meet (between lanes.now dimension) n k) (passes (context_in context.now))) words.old floats.old cost words.new floats.new result }
+    requires { Game counters.dimension counters.n k counters.lanes.now words.old floats.old × Contexted counters.n context.now × (cost ≤ 268435456) }
+    ensures { Does counters.entry.n k 28672 (through (meet (between counters.entry) counters.entry.n k) (passes (context_in context.now))) words.old floats.old cost words.new floats.new result }
 {
-    let new = members_at(context, n, 0);
-    let old = members_at(context, n, 65);
-    let reversed_new = members_at(context, n, 130);
-    let reversed_old = members_at(context, n, 195);
-    let done = early_passes(
-        lanes,
-        dimension,
-        n,
-        k,
-        new,
-        old,
-        reversed_new,
-        words,
-        floats,
-        cost,
-    );
+    let new = members_at(context, counters.n, 0);
+    let old = members_at(context, counters.n, 65);
+    let reversed_new = members_at(context, counters.n, 130);
+    let reversed_old = members_at(context, counters.n, 195);
+    let done = early_passes(counters, k, new, old, reversed_new, words, floats, cost);
     late_passes(
-        lanes,
-        dimension,
-        n,
+        counters,
         k,
         new,
         old,
@@ -267,32 +215,19 @@ pub fn passes(
 
 /// The passes over the context of each node, rising; returns the cost.
 pub fn meet_all(
-    lanes: &[f32],
-    dimension: usize,
-    n: usize,
+    counters: Counters<'_>,
     k: usize,
     contexts: &[u32],
     words: &mut [u32],
     floats: &mut [f32],
 ) -> usize
-    requires { Game dimension n k lanes.now words.old floats.old × ManyContexted n contexts.now }
-    ensures { Does n k (n * 28672) (meet_all (between lanes.now dimension) n k (contexts_in n contexts.now)) words.old floats.old 0 words.new floats.new result }
+    requires { Game counters.dimension counters.n k counters.lanes.now words.old floats.old × ManyContexted counters.n contexts.now }
+    ensures { Does counters.entry.n k (counters.entry.n * 28672) (meet_all (between counters.entry) counters.entry.n k (contexts_in counters.entry.n contexts.now)) words.old floats.old 0 words.new floats.new result }
 {
     let mut total: usize = 0;
-    let mut i: usize = 0;
-    while i < n {
+    for i in 0..counters.n {
         let at = 260 * i;
-        total = passes(
-            lanes,
-            dimension,
-            n,
-            k,
-            &contexts[at..],
-            words,
-            floats,
-            total,
-        );
-        i += 1;
+        total = passes(counters, k, &contexts[at..], words, floats, total);
     }
     total
 }

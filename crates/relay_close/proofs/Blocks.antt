@@ -1,14 +1,14 @@
 -- A slice written a block at a time, from the front on. Assumes nothing.
 use mathlib.Core.Path.{◌≡◌, sym, ap, ◌∙◌}
-use mathlib.Core.List.{List, ◌++◌, append-nil}
+use mathlib.Core.List.{List, ◌++◌}
 use Prim.Native.Nat.{ℕ, ◌+◌, ◌*◌, ◌≤◌}
 use native.Mathlib.Nat.{suc-mul, zero-mul}
 use native.Mathlib.Numerals.{add-one}
 use native.Mathlib.Omega.{arith}
 use borrow.Rule.Slice.PartMut.{put_mid}
-use lib.ListN.{length, take, drop, drop_of_length-le}
+use lib.ListN.{length, take, drop}
 use lib.Seq.{take_all, take-add}
-use Rattle.rules.specs.Loops.{part, over}
+use Rattle.rules.specs.Loops.{part}
 use Rattle.buffers.proofs.Places.{put-length, put_front, put-area}
 
 module _ {A : Type 0} where
@@ -44,8 +44,3 @@ module _ {A : Type 0} where
     blocks_end h =
         let l = inv.long in
         sym (take_all (w * v) xs (omega arith)) ∙ inv.front ∙ take_all (w * v) goal h
-
-  -- a whole block copied from a longer one
-  pub copied : (v : ℕ) (src dst : List A) → v ≤ length src → length dst ≡ v → over v src dst ≡ take v src
-  unfolding over
-  copied v src dst h e = ap (λ (l : List A). take v src ++ l) (drop_of_length-le dst {i = v} (omega arith)) ∙ append-nil (take v src)

@@ -6,8 +6,8 @@ use Prim.Native.Nat.{ℕ, suc, ◌+◌, ◌-◌, ◌*◌, ◌≤◌, ◌<◌}
 use native.Mathlib.Nat.{suc-mul, mul-le-mul, mul-le-mul_right}
 use native.Mathlib.Omega.{arith}
 use borrow.Rule.Slice.PartMut.{put_mid}
-use lib.ListN.{length, take, drop, get_or, set, replicate, length-drop}
-use lib.Seq.{take_at, length-take-le}
+use lib.ListN.{length, take, drop, get_or, set, replicate}
+use lib.Seq.{take_at, take-take}
 use lib.Ieee.{Float}
 use Rattle.rules.specs.declared.Neighbor.{Neighbor}
 use Rattle.rules.specs.Loops.{part, over}
@@ -22,7 +22,6 @@ use Rattle.buffers.proofs.Laws.{Written, written-more}
 use Rattle.encoded.specs.Words.{Rows}
 use Rattle.encoded.proofs.Lists.{length-list-words, length-list-floats, part-nodes, part-distances}
 use Rattle.relay_state.specs.State.{Sized}
-use Rattle.relay_state.proofs.Parts.{inside}
 use Rattle.relay_state.proofs.Reading.{lists-long, list_at_lem}
 use Rattle.relay_state.proofs.Whole.{Facts, facts, words_are, floats_as}
 use Rattle.relay_kept.proofs.Jobs.{pending-finished}
@@ -30,8 +29,8 @@ use Rattle.relay_move.specs.Moves.{job_place}
 use Rattle.relay_move.proofs.Half.{taken_is}
 use Rattle.relay_move.proofs.Table.{jobs_are, few-jobs}
 use Rattle.relay_kept.proofs.Stages.{report_first, report_second, length-reports}
-use Rattle.relay_close.specs.Close.{Done, ListsWritten}
-use Rattle.relay_close.proofs.Blocks.{Blocks, blocks_turn, blocks_end, copied}
+use Rattle.relay_close.specs.Close.{Done}
+use Rattle.relay_close.proofs.Blocks.{Blocks, blocks_turn}
 
 -- ---- the lists
 
@@ -57,44 +56,24 @@ module _ {n k : ℕ} {us : List ℕ} {fs : List Float} (d : Done n k us fs) wher
   pub floats_long : length (list_floats r.lists) ≡ n * k
   floats_long = length-list-floats k r.lists K ∙ ap (λ (i : ℕ). i * k) (lists-long n k us fs)
 
-  -- the room that is lent, and k places to write to
-  module _ (w m : ℕ) (h : w < n) (cut : m ≡ k + 64) where
-    pub lent-words : k ≤ length (take m (drop (w * (k + 64)) us))
-    lent-words =
-        let x = inside w d.sized h in
-        let to = x.to in
-        let s = x.sizes in
-        let all = s.all_words in
-        let e = length-take-le m (drop (w * (k + 64)) us) (simp length-drop (omega arith)) in
-        omega arith
-
-    pub lent-floats : k ≤ length (take m (drop (w * (k + 64)) fs))
-    lent-floats =
-        let x = inside w d.sized h in
-        let to = x.to in
-        let s = x.sizes in
-        let all = s.all_floats in
-        let e = length-take-le m (drop (w * (k + 64)) fs) (simp length-drop (omega arith)) in
-        omega arith
-
-    pub node_block : (dst : List ℕ) → length dst ≡ k → over k (take m (drop (w * (k + 64)) us)) dst ≡ part k w (list_words r.lists)
+  -- the first k places of a room
+  module _ (w : ℕ) (h : w < n) where
+    pub node_block : take k (drop (w * (k + 64)) us) ≡ part k w (list_words r.lists)
     unfolding padded part
-    node_block dst e =
+    node_block =
         let l = get_or r.lists w [] in
         let a = lists-long n k us fs in
-        copied k (take m (drop (w * (k + 64)) us)) dst lent-words e
-        ∙ ap (λ (i : ℕ). take k (take i (drop (w * (k + 64)) us))) cut
+        sym (take-take k (k + 64) (drop (w * (k + 64)) us) (omega arith))
         ∙ ap (take k) (words_are d.sized T w h ∙ ap (λ (x : List Neighbor). padded (k + 64) 0 (nodes_of x)) (sym (list_at_lem n k us fs w h)))
         ∙ take_at (nodes_of l) (replicate (k + 64 - length (nodes_of l)) 0) k (length-nodes l ∙ list-long w h)
         ∙ sym (ap (part k w) (sym (append-nil (list_words r.lists))) ∙ part-nodes k r.lists K w (omega arith) [])
 
-    pub float_block : (dst : List Float) → length dst ≡ k → over k (take m (drop (w * (k + 64)) fs)) dst ≡ part k w (list_floats r.lists)
+    pub float_block : take k (drop (w * (k + 64)) fs) ≡ part k w (list_floats r.lists)
     unfolding padded part
-    float_block dst e =
+    float_block =
         let l = get_or r.lists w [] in
         let a = lists-long n k us fs in
-        copied k (take m (drop (w * (k + 64)) fs)) dst lent-floats e
-        ∙ ap (λ (i : ℕ). take k (take i (drop (w * (k + 64)) fs))) cut
+        sym (take-take k (k + 64) (drop (w * (k + 64)) fs) (omega arith))
         ∙ ap (take k) (floats_as d.sized T w h ∙ ap (λ (x : List Neighbor). padded (k + 64) zero32 (distances_of x)) (sym (list_at_lem n k us fs w h)))
         ∙ take_at (distances_of l) (replicate (k + 64 - length (distances_of l)) zero32) k (length-distances l ∙ list-long w h)
         ∙ sym (ap (part k w) (sym (append-nil (list_floats r.lists))) ∙ part-distances k r.lists K w (omega arith) [])
@@ -112,37 +91,25 @@ block {n} {k} z w h =
     record { to = omega arith; small = omega arith }
 
 module _ {n k : ℕ} {us : List ℕ} {fs : List Float} (d : Done n k us fs) where
-  pub nodes_turn : {w : ℕ} {xs ys : List ℕ} → Blocks (list_words (relay_in n k us fs).lists) k w xs → w < n → (m p : ℕ) → m ≡ k + 64 → p ≡ k
-      → ys ≡ over k (take m (drop (w * (k + 64)) us)) (take p (drop (w * k) xs)) → Blocks (list_words (relay_in n k us fs).lists) k (w + 1) (put_mid (w * k) p xs ys)
+  pub nodes_turn : {w : ℕ} {xs ys : List ℕ} → Blocks (list_words (relay_in n k us fs).lists) k w xs → w < n → (m p : ℕ) → m ≡ k → p ≡ k
+      → ys ≡ take m (drop (w * (k + 64)) us) → Blocks (list_words (relay_in n k us fs).lists) k (w + 1) (put_mid (w * k) p xs ys)
   nodes_turn {w} {xs} {ys} inv h m p cut wide made =
       let b = block d.sized w h in
       let to = b.to in
       let g = words_long d in
-      let l = inv.long in
-      let e : length (take p (drop (w * k) xs)) ≡ k = length-take-le p (drop (w * k) xs) (simp length-drop (omega arith)) ∙ wide in
-      let same = made ∙ node_block d w m h cut (take p (drop (w * k) xs)) e in
+      let same = made ∙ ap (λ (i : ℕ). take i (drop (w * (k + 64)) us)) cut ∙ node_block d w h in
       let long : length (part k w (list_words (relay_in n k us fs).lists)) ≡ k = part-long k w (list_words (relay_in n k us fs).lists) (omega arith) in
       blocks_turn inv p ys wide (omega arith) (ap length same ∙ long) same
 
-  pub floats_turn : {w : ℕ} {xs ys : List Float} → Blocks (list_floats (relay_in n k us fs).lists) k w xs → w < n → (m p : ℕ) → m ≡ k + 64 → p ≡ k
-      → ys ≡ over k (take m (drop (w * (k + 64)) fs)) (take p (drop (w * k) xs)) → Blocks (list_floats (relay_in n k us fs).lists) k (w + 1) (put_mid (w * k) p xs ys)
+  pub floats_turn : {w : ℕ} {xs ys : List Float} → Blocks (list_floats (relay_in n k us fs).lists) k w xs → w < n → (m p : ℕ) → m ≡ k → p ≡ k
+      → ys ≡ take m (drop (w * (k + 64)) fs) → Blocks (list_floats (relay_in n k us fs).lists) k (w + 1) (put_mid (w * k) p xs ys)
   floats_turn {w} {xs} {ys} inv h m p cut wide made =
       let b = block d.sized w h in
       let to = b.to in
       let g = floats_long d in
-      let l = inv.long in
-      let e : length (take p (drop (w * k) xs)) ≡ k = length-take-le p (drop (w * k) xs) (simp length-drop (omega arith)) ∙ wide in
-      let same = made ∙ float_block d w m h cut (take p (drop (w * k) xs)) e in
+      let same = made ∙ ap (λ (i : ℕ). take i (drop (w * (k + 64)) fs)) cut ∙ float_block d w h in
       let long : length (part k w (list_floats (relay_in n k us fs).lists)) ≡ k = part-long k w (list_floats (relay_in n k us fs).lists) (omega arith) in
       blocks_turn inv p ys wide (omega arith) (ap length same ∙ long) same
-
-  pub lists-end : {w : ℕ} {xs : List ℕ} {ys : List Float} → n ≤ w → Blocks (list_words (relay_in n k us fs).lists) k w xs → Blocks (list_floats (relay_in n k us fs).lists) k w ys
-      → ListsWritten (relay_in n k us fs).lists xs ys
-  lists-end {w} h a b =
-      let m : n * k ≤ w * k = mul-le-mul_right k h in
-      let g = words_long d in
-      let f = floats_long d in
-      record { nodes_are = blocks_end a (omega arith); distances_are = blocks_end b (omega arith) }
 
 -- ---- the reports
 

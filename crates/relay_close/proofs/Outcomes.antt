@@ -4,8 +4,8 @@ use mathlib.Core.List.{List}
 use Prim.Native.Nat.{ℕ}
 use lib.ListN.{length}
 use lib.Ieee.{Float}
-use Rattle.rules.specs.declared.Answer.{Answer}
-use Rattle.rules.specs.declared.Answer.TheVariants as answer
+use Rattle.std.specs.Prelude.{Ok, Err}
+use Rattle.rules.specs.Answers.{Answer}
 use Rattle.rules.specs.declared.Refusal.{Refusal}
 use Rattle.rules.specs.Loops.{over}
 use Rattle.rules.specs.Refusals.{passed, decide, decision_of, said_of}
@@ -15,16 +15,16 @@ use Rattle.rules.proofs.Answers.{same_answer}
 use Rattle.relay_close.specs.Close.{ListsWritten, close_left, Closed}
 
 module _ (l : CloseLent) where
-  pub closed-refused : {a : Answer} {r : Refusal} → decision_of a ≡ decide (close_table l) → a ≡ answer.Refused r → Closed l (answer.Refused r) l.nodes l.distances l.reports
+  pub closed-refused : {a : Answer} {r : Refusal} → decision_of a ≡ decide (close_table l) → a ≡ Err r → Closed l (Err r) l.nodes l.distances l.reports
   unfolding close_rule close_obeys said_of decision_of
   closed-refused {a} {r} e f = record { whole = ap (close_obeys l) (sym (ap decision_of f) ∙ e) }
 
-  pub no_row : {a : Answer} → decision_of a ≡ decide (close_table l) → a ≡ answer.Done → decide (close_table l) ≡ passed
+  pub no_row : {a : Answer} → decision_of a ≡ decide (close_table l) → a ≡ (Ok tt) → decide (close_table l) ≡ passed
   unfolding decision_of
   no_row e f = sym e ∙ ap decision_of f
 
   pub closed-done : {ns : List ℕ} {ds : List Float} {rs : List ℕ} → decide (close_table l) ≡ passed → ListsWritten (closing l).lists ns ds
-      → rs ≡ over (length (reports_of (closing l).jobs)) (reports_of (closing l).jobs) l.reports → Closed l answer.Done ns ds rs
+      → rs ≡ over (length (reports_of (closing l).jobs)) (reports_of (closing l).jobs) l.reports → Closed l (Ok tt) ns ds rs
   unfolding close_rule close_obeys said_of
   closed-done {ns} {ds} {rs} e w f =
       let a = w.nodes_are in

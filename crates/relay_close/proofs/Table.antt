@@ -4,8 +4,7 @@ use mathlib.Core.Bool.{Bool, true, false, not, cond}
 use mathlib.Core.List.{List, [], ◌∷◌}
 use Prim.Native.Nat.{ℕ, zero, suc, ◌+◌, ◌*◌, ◌≤◌, ◌<◌}
 use native.Mathlib.Omega.{arith}
-use borrow.Author.Tests.{eq-eqb, ne_eqb, lt-ltb, le-ltb, ltb-false, not-false}
-use lib.Dec.{eqb}
+use borrow.Author.Tests.{lt-ltb, le-ltb, ltb-false, not-false}
 use lib.ListN.{length, get_or}
 use lib.Ieee.{Float}
 use Rattle.rules.specs.Loops.{any_of, first_from}
@@ -17,7 +16,6 @@ use Rattle.rules.specs.RelayPlaces.{relay_in, relay_formed}
 use Rattle.rules.specs.RelayCall.{CloseLent, closing, close_table}
 use Rattle.rules.proofs.Loops.{first-before}
 use Rattle.rules.proofs.Tables.{all_fail, none_hold, within, exactly}
-use Rattle.rules.proofs.Tests.{or-false}
 use Rattle.encoded.specs.Words.{Binary32}
 use Rattle.relay_state.specs.State.{Sized}
 use Rattle.relay_move.proofs.Table.{jobs_are}
@@ -29,30 +27,6 @@ use Rattle.relay_close.specs.Close.{lent, steps_left, Done}
 module _ (n k words floats nodes distances reports : ℕ) where
   abbrev pub lengths : List Bool
   lengths = not_exactly (relay_words n k) words ∷ not_exactly (relay_floats n k) floats ∷ not_exactly (n * k) nodes ∷ not_exactly (n * k) distances ∷ not_exactly 128 reports ∷ []
-
-  pub wrong_words : (words ≡ relay_words n k → ⊥) → true ≡ any_of holds lengths
-  unfolding any_of
-  wrong_words e = rw (ne_eqb words (relay_words n k) e)
-
-  module _ (a : words ≡ relay_words n k) where
-    pub wrong_floats : (floats ≡ relay_floats n k → ⊥) → true ≡ any_of holds lengths
-    unfolding any_of
-    wrong_floats e = rw (eq-eqb words (relay_words n k) a, ne_eqb floats (relay_floats n k) e)
-
-    module _ (b : floats ≡ relay_floats n k) where
-      pub wrong_nodes : (nodes ≡ n * k → ⊥) → true ≡ any_of holds lengths
-      unfolding any_of
-      wrong_nodes e = rw (eq-eqb words (relay_words n k) a, eq-eqb floats (relay_floats n k) b, ne_eqb nodes (n * k) e)
-
-      module _ (c : nodes ≡ n * k) where
-        pub wrong_distances : (distances ≡ n * k → ⊥) → true ≡ any_of holds lengths
-        unfolding any_of
-        wrong_distances e = rw (eq-eqb words (relay_words n k) a, eq-eqb floats (relay_floats n k) b, eq-eqb nodes (n * k) c, ne_eqb distances (n * k) e)
-
-        pub wrong_reports : distances ≡ n * k → not (eqb reports 128) ≡ any_of holds lengths
-        unfolding any_of
-        wrong_reports e =
-            rw (eq-eqb words (relay_words n k) a, eq-eqb floats (relay_floats n k) b, eq-eqb nodes (n * k) c, eq-eqb distances (n * k) e) (or-false (not (eqb reports 128)))
 
   pub record Right : Type 0 where
     pub words_right : words ≡ relay_words n k

@@ -1,7 +1,7 @@
 -- What the entry `close` is lent, and what it leaves. Assumes nothing.
 use Rattle.std.specs.Prelude.{◌≡◌, Bool, true, not, List, ℕ, ◌+◌, ◌<◌, eqb, length, get_or, Float}
 use Rattle.rules.specs.declared.Neighbor.{Neighbor}
-use Rattle.rules.specs.declared.Answer.{Answer}
+use Rattle.rules.specs.Answers.{Answer}
 use Rattle.rules.specs.Refusals.{said_of}
 use Rattle.rules.specs.Relay.{is_finished, job_at}
 use Rattle.rules.specs.Places.{list_words, list_floats}

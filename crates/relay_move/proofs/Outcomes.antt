@@ -2,8 +2,8 @@
 use mathlib.Core.Path.{◌≡◌, sym, ap, ◌∙◌}
 use mathlib.Core.List.{List}
 use lib.Ieee.{Float}
-use Rattle.rules.specs.declared.Answer.{Answer}
-use Rattle.rules.specs.declared.Answer.TheVariants.{Done, Refused}
+use Rattle.std.specs.Prelude.{Ok, Err}
+use Rattle.rules.specs.Answers.{Answer}
 use Rattle.rules.specs.declared.Refusal.{Refusal}
 use Prim.Native.Nat.{ℕ}
 use Rattle.rules.specs.Refusals.{passed, decide, decision_of, said_of}
@@ -13,15 +13,15 @@ use Rattle.relay_move.specs.Moves.{Stepped}
 use Rattle.relay_move.specs.Move.{move_left, Moved}
 
 module _ (l : MoveLent) where
-  pub moved-refused : {a : Answer} {r : Refusal} → decision_of a ≡ decide (move_table l) → a ≡ Refused r → Moved l (Refused r) l.state_u l.state_f
+  pub moved-refused : {a : Answer} {r : Refusal} → decision_of a ≡ decide (move_table l) → a ≡ Err r → Moved l (Err r) l.state_u l.state_f
   unfolding move_rule move_obeys said_of decision_of
   moved-refused {a} {r} e f = record { whole = ap (move_obeys l) (sym (ap decision_of f) ∙ e) }
 
-  pub no_row : {a : Answer} → decision_of a ≡ decide (move_table l) → a ≡ Done → decide (move_table l) ≡ passed
+  pub no_row : {a : Answer} → decision_of a ≡ decide (move_table l) → a ≡ (Ok tt) → decide (move_table l) ≡ passed
   unfolding decision_of
   no_row e f = sym e ∙ ap decision_of f
 
-  pub moved-done : {us : List ℕ} {fs : List Float} → decide (move_table l) ≡ passed → Stepped l.n l.k l.state_u l.state_f l.job us fs → Moved l Done us fs
+  pub moved-done : {us : List ℕ} {fs : List Float} → decide (move_table l) ≡ passed → Stepped l.n l.k l.state_u l.state_f l.job us fs → Moved l (Ok tt) us fs
   unfolding move_rule move_obeys said_of
   moved-done {us} {fs} e s =
       let a = s.words in

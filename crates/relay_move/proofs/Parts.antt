@@ -13,7 +13,7 @@ use Rattle.rules.specs.declared.Neighbor.{Neighbor}
 use Rattle.rules.specs.Loops.{part}
 use Rattle.rules.specs.Distance.{zero32}
 use Rattle.rules.specs.Lists.{entries, nodes_of, distances_of}
-use Rattle.rules.specs.Relay.{Stage, next_list}
+use Rattle.rules.specs.Relay.{Stage, bit, next_list}
 use Rattle.rules.specs.Places.{padded}
 use Rattle.relay_state.specs.State.{Sized}
 use Rattle.rules.specs.RelayPlaces.{relay_in}
@@ -115,7 +115,7 @@ module _ {n k : ℕ} {us : List ℕ} {fs : List Float} {i w half steps : ℕ} (r
         let done = ready.done in
         (omega arith, ready.place, omega arith)
 
-    pub half_moved : (m : ℕ) {f : Flags} {ws : List ℕ} → m ≡ 15 → NextFlags k (eqb w other) e l s f → ws ≡ kept_words (take m (drop (job_place n k i) us')) half f.taken f.longer
+    pub half_moved : (m : ℕ) {f : Flags} {ws : List ℕ} → m ≡ 15 → NextFlags k (eqb w other) e l s f → ws ≡ kept_words (take m (drop (job_place n k i) us')) half (bit f.taken) (bit f.longer)
         → HalfMoved n k us fs i w other half steps (put_mid (job_place n k i) m us' ws) fs'
     half_moved m {f} {ws} cut flags made =
         record { few = listed.few; words = rw (made, flags.taken, flags.longer, listed.words, cut); floats = listed.floats }

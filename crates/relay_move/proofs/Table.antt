@@ -1,11 +1,11 @@
 -- Which row of a move's table decides, and what it is that none holds. Assumes nothing.
 use mathlib.Core.Path.{◌≡◌, refl, sym, ap, ◌∙◌}
-use mathlib.Core.Bool.{Bool, true, false, not, ◌||◌}
+use mathlib.Core.Bool.{Bool, true, false, ◌||◌}
 use mathlib.Core.List.{List, [], ◌∷◌}
 use Prim.Native.Nat.{ℕ, suc, ◌+◌, ◌*◌, ◌≤◌, ◌<◌}
 use native.Mathlib.Nat.{mul-suc, mul-le-mul}
 use native.Mathlib.Omega.{arith}
-use borrow.Author.Tests.{eq-eqb, ne_eqb, le-leb, lt-leb, leb-false, not-false}
+use borrow.Author.Tests.{leb-false, not-false}
 use lib.Dec.{eqb, leb}
 use lib.ListN.{length, get_or}
 use lib.Ieee.{Float}
@@ -17,7 +17,7 @@ use Rattle.rules.specs.Relay.{Relay, is_finished, job_at}
 use Rattle.rules.specs.RelayPlaces.{relay_in, relay_formed}
 use Rattle.rules.specs.RelayCall.{MoveLent, relay_of, move_table}
 use Rattle.rules.proofs.Tables.{all_fail, none_hold, within, exactly}
-use Rattle.rules.proofs.Tests.{neither, or-false}
+use Rattle.rules.proofs.Tests.{neither}
 use Rattle.encoded.specs.Words.{Binary32}
 use Rattle.relay_state.specs.State.{Sized}
 use Rattle.relay_state.proofs.Parts.{sizes}
@@ -32,14 +32,6 @@ use Rattle.relay_move.proofs.Half.{finished-is}
 module _ (n k words floats : ℕ) where
   abbrev pub lengths : List Bool
   lengths = not_exactly (relay_words n k) words ∷ not_exactly (relay_floats n k) floats ∷ []
-
-  pub wrong_words : (words ≡ relay_words n k → ⊥) → true ≡ any_of holds lengths
-  unfolding any_of
-  wrong_words e = rw (ne_eqb words (relay_words n k) e)
-
-  pub wrong_floats : words ≡ relay_words n k → not (eqb floats (relay_floats n k)) ≡ any_of holds lengths
-  unfolding any_of
-  wrong_floats e = rw (eq-eqb words (relay_words n k) e) (or-false (not (eqb floats (relay_floats n k))))
 
   lengths_right : any_of holds lengths ≡ false → (words ≡ relay_words n k) × (floats ≡ relay_floats n k)
   lengths_right h =
@@ -82,15 +74,6 @@ lies n k words few size long =
     let one : n * (k + 65) ≡ n * (k + 64) + n = ap (λ (m : ℕ). n * m) (let g : k + 65 ≡ suc (k + 64) = omega arith in g) ∙ mul-suc n (k + 64) in
     let product : n * (k + 64) ≤ 1024 * 128 = mul-le-mul few room in
     record { room = room; nodes = few; lists = omega arith; all = omega arith }
-
-module _ (n k i : ℕ) (us : List ℕ) where
-  pub step_absent : get_or us (n * (k + 64) + n) 0 ≤ i → true ≡ no_step n k us i
-  unfolding no_step
-  step_absent h = rw (le-leb (get_or us (n * (k + 64) + n) 0) i h)
-
-  pub step-word : i < get_or us (n * (k + 64) + n) 0 → eqb (get_or us (job_place n k i + 2) 0) 8 ≡ no_step n k us i
-  unfolding no_step
-  step-word h = rw (lt-leb (get_or us (n * (k + 64) + n) 0) i h)
 
 -- ---- the rows in order
 

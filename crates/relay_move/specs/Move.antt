@@ -1,6 +1,6 @@
 -- What the entry `move_job` is lent, and what it leaves. Assumes nothing.
 use Rattle.std.specs.Prelude.{◌≡◌, List, ℕ, Float}
-use Rattle.rules.specs.declared.Answer.{Answer}
+use Rattle.rules.specs.Answers.{Answer}
 use Rattle.rules.specs.Refusals.{said_of}
 use Rattle.rules.specs.RelayCall.{MoveLent, MoveOutcome, move_rule}
 

@@ -2,8 +2,7 @@
 use mathlib.Core.Path.{◌≡◌, refl, sym, ap, ◌∙◌}
 use mathlib.Core.Bool.{cond}
 use mathlib.Core.List.{List, [], ◌∷◌, ◌++◌, append_assoc, append-nil}
-use Prim.Native.Nat.{ℕ, suc, ◌+◌, ◌-◌, ◌*◌, ◌/◌, ◌≤◌, ◌<◌}
-use native.Mathlib.Nat.{mul-le-mul_right, div-add-mod'}
+use Prim.Native.Nat.{ℕ, suc, ◌+◌, ◌-◌, ◌*◌, ◌≤◌, ◌<◌}
 use native.Mathlib.Numerals.{add-one}
 use native.Mathlib.Omega.{arith}
 use lib.Dec.{eqb}
@@ -18,7 +17,6 @@ use Rattle.rules.specs.Relay.{Job, job_of, steps_of, taken_of, longer_of}
 use Rattle.rules.specs.Places.{padded}
 use Rattle.rules.specs.RelayPlaces.{job_words, jobs_words, jobs_floats}
 use Rattle.rules.proofs.Loops.{length-ones}
-use Rattle.rules.proofs.Places.{length-padded}
 use Rattle.encoded.proofs.Jobs.{length-jobs_words, length-jobs_floats}
 use Rattle.relay_open.specs.Open.{first_jobs, JobsWritten}
 
@@ -110,27 +108,3 @@ module _ (d : Between) (jobs : List ℕ) where
             ∙ ap (padded 64 zero32) (sym (floats-next i))
             ∙ ap (λ (m : ℕ). padded 64 zero32 (jobs_floats (first_jobs d jobs m))) (sym (add-one i));
       }
-
-  pub jobs-long : {i : ℕ} {us : List ℕ} {fs : List Float} → JobsWritten d jobs i us fs → i ≤ 64 → (length us ≡ 1024) × (length fs ≡ 64)
-  jobs-long {i} inv h =
-      let o = length-ones (job_of d jobs) i in
-      let w = length-jobs_words (first_jobs d jobs i) in
-      let w' = ap (λ (m : ℕ). m * 15) o in
-      let f = length-jobs_floats (first_jobs d jobs i) in (
-        ap length inv.words ∙ length-padded 1024 0 (job_count jobs ∷ jobs_words (first_jobs d jobs i)) (omega arith),
-        ap length inv.floats ∙ length-padded 64 zero32 (jobs_floats (first_jobs d jobs i)) (omega arith),
-      )
-
--- job i's two words are there
-pub both_there : (jobs : List ℕ) (i : ℕ) → i < job_count jobs → 2 * i + 1 < length jobs
-both_there jobs i h = let e = div-add-mod' (length jobs) 2 in let m : suc i * 2 ≤ length jobs / 2 * 2 = mul-le-mul_right 2 h in omega arith
-
--- a node's lanes are there
-pub lanes_there : (n dimension u lanes : ℕ) → lanes ≡ n * dimension → u < n → (u + 1) * dimension ≤ lanes
-lanes_there n dimension u lanes e h =
-    let m : suc u * dimension ≤ n * dimension = mul-le-mul_right dimension h in
-    let s : (u + 1) * dimension ≡ suc u * dimension = ap (λ (i : ℕ). i * dimension) (add-one u) in
-    omega arith
-
-pub jobs-end : {d : Between} {jobs : List ℕ} {i : ℕ} {us : List ℕ} {fs : List Float} → i ≤ job_count jobs → job_count jobs ≤ i → JobsWritten d jobs i us fs → JobsWritten d jobs (job_count jobs) us fs
-jobs-end {d} {jobs} {i} h g inv = let e : i ≡ job_count jobs = omega arith in rw e at inv

@@ -1,30 +1,30 @@
 -- Each list in its room: the first places written, and zeros behind them. Assumes nothing.
-use mathlib.Core.Path.{◌≡◌, sym, ap, ◌∙◌}
+use mathlib.Core.Path.{◌≡◌, refl, sym, ap, ◌∙◌}
 use mathlib.Core.List.{List, [], ◌++◌, append-nil}
 use Prim.Native.Nat.{ℕ, suc, ◌+◌, ◌-◌, ◌*◌, ◌≤◌, ◌<◌}
 use native.Mathlib.Nat.{suc-mul, mul-le-mul, mul-le-mul_right}
 use native.Mathlib.Omega.{arith}
 use borrow.Rule.Slice.PartMut.{put_mid}
 use lib.ListN.{length, take, drop, replicate, length-append, length-take, length-drop, drop_of_length-le}
-use lib.Seq.{take_at, take-take, length-take-le}
-use Rattle.rules.specs.Loops.{each, part, over}
+use lib.Seq.{take_at, length-take-le}
+use Rattle.rules.specs.Loops.{each, part}
 use Rattle.rules.specs.Places.{padded}
 use Rattle.rules.proofs.Loops.{length-each, part-each}
 use Rattle.rules.proofs.Places.{length-padded}
-use Rattle.relay_close.proofs.Blocks.{Blocks, blocks_none, blocks_turn, blocks_end}
+use Rattle.relay_close.proofs.Blocks.{Blocks, blocks_none, blocks_turn}
 
 module _ {A : Type 0} (z : A) where
-  -- the first k over the room, and m places from k on zeroed
-  pub roomed : (k m : ℕ) (src dst mid ys : List A) → k ≤ length src → k ≤ length dst → mid ≡ over k src dst → m ≡ length mid - k → ys ≡ replicate (length (take m (drop k mid))) z
-      → put_mid k m mid ys ≡ padded (length dst) z (take k src)
-  unfolding over padded
-  roomed k m src dst mid ys h g e cut f =
-      let a = length-take-le k src h in
-      let b : length mid ≡ length dst = ap length e ∙ length-append (take k src) (drop k dst) ∙ (let c = length-drop k dst in omega arith) in
-      let front : take k mid ≡ take k src = ap (take k) e ∙ take_at (take k src) (drop k dst) k a in
-      let n : length (take m (drop k mid)) ≡ length dst - length (take k src) = length-take-le m (drop k mid) (simp length-drop (omega arith)) ∙ omega arith in
+  -- a list over the front of its room, and the m places behind it zeroed
+  pub roomed : (m : ℕ) (src dst mid ys : List A) → length src ≤ length dst → mid ≡ src ++ drop (length src) dst → m ≡ length mid - length src → ys ≡ replicate (length (take m (drop (length src) mid))) z
+      → put_mid (length src) m mid ys ≡ padded (length dst) z src
+  unfolding padded
+  roomed m src dst mid ys g e cut f =
+      let k = length src in
+      let b : length mid ≡ length dst = ap length e ∙ length-append src (drop k dst) ∙ (let c = length-drop k dst in omega arith) in
+      let front : take k mid ≡ src = ap (take k) e ∙ take_at src (drop k dst) k refl in
+      let n : length (take m (drop k mid)) ≡ length dst - k = length-take-le m (drop k mid) (simp length-drop (omega arith)) ∙ omega arith in
       let behind : drop m (drop k mid) ≡ [] = drop_of_length-le (drop k mid) {i = m} (simp length-drop (omega arith)) in
-      rw (front, behind) (ap (λ (l : List A). take k src ++ l) (append-nil ys ∙ f ∙ ap (λ (i : ℕ). replicate i z) n))
+      rw (front, behind) (ap (λ (l : List A). src ++ l) (append-nil ys ∙ f ∙ ap (λ (i : ℕ). replicate i z) n))
 
   -- ---- the rooms one behind the other
 
@@ -62,7 +62,7 @@ module _ {A : Type 0} (z : A) where
     rooms_none dst h = blocks_none rooms (k + 64) dst (h ∙ sym rooms_long)
 
     pub rooms_turn : {w : ℕ} {dst ys : List A} → Blocks rooms (k + 64) w dst → w < n → (m p : ℕ) → m ≡ k → p ≡ k + 64
-        → ys ≡ padded (length (take p (drop (w * (k + 64)) dst))) z (take k (take m (drop (w * k) src))) → Blocks rooms (k + 64) (w + 1) (put_mid (w * (k + 64)) p dst ys)
+        → ys ≡ padded (length (take p (drop (w * (k + 64)) dst))) z (take m (drop (w * k) src)) → Blocks rooms (k + 64) (w + 1) (put_mid (w * (k + 64)) p dst ys)
     unfolding part
     rooms_turn {w} {dst} {ys} inv h m p cut wide_p made =
         let x = where_is w h in
@@ -72,12 +72,5 @@ module _ {A : Type 0} (z : A) where
         let g = rooms_long in
         let a : length (take p (drop (w * (k + 64)) dst)) ≡ k + 64 = length-take-le p (drop (w * (k + 64)) dst) (simp length-drop (omega arith)) ∙ wide_p in
         let same : ys ≡ padded (k + 64) z (part k w src) =
-        made ∙ ap (λ (i : ℕ). padded i z (take k (take m (drop (w * k) src)))) a
-        ∙ ap (λ (i : ℕ). padded (k + 64) z (take k (take i (drop (w * k) src)))) cut ∙ ap (padded (k + 64) z) (take-take k k (drop (w * k) src) (omega arith)) in
+        made ∙ ap (λ (i : ℕ). padded i z (take m (drop (w * k) src))) a ∙ ap (λ (i : ℕ). padded (k + 64) z (take i (drop (w * k) src))) cut in
         blocks_turn inv p ys wide_p (omega arith) (ap length same ∙ wide w) (same ∙ sym (part-each (λ (v : ℕ). padded (k + 64) z (part k v src)) (k + 64) wide w n h))
-
-    pub rooms_end : {w : ℕ} {dst : List A} → n ≤ w → Blocks rooms (k + 64) w dst → dst ≡ rooms
-    rooms_end {w} h inv =
-        let m : n * (k + 64) ≤ w * (k + 64) = mul-le-mul_right (k + 64) h in
-        let g = rooms_long in
-        blocks_end inv (omega arith)

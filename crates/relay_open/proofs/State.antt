@@ -4,8 +4,8 @@ use mathlib.Core.List.{List, [], ◌∷◌, ◌++◌, append_assoc, append-nil}
 use Prim.Native.Nat.{ℕ, ◌+◌, ◌-◌, ◌*◌, ◌≤◌, ◌<◌}
 use native.Mathlib.Omega.{arith}
 use borrow.Rule.Slice.PartMut.{put_mid}
-use lib.ListN.{length, take, drop, replicate, length-append, length-drop, length-replicate, get_or-replicate, drop_of_length-le}
-use lib.Seq.{take_at, take_all, length-take-le, ext_get_or}
+use lib.ListN.{length, take, drop, replicate, length-drop, length-replicate, get_or-replicate, drop_of_length-le}
+use lib.Seq.{take_all, ext_get_or}
 use lib.Ieee.{Float}
 use Rattle.rules.specs.declared.Neighbor.{Neighbor}
 use Rattle.rules.specs.Loops.{each, part}
@@ -18,14 +18,12 @@ use Rattle.rules.specs.Places.{padded, lists_in}
 use Rattle.rules.specs.RelayPlaces.{room_words, room_floats, lengths_of, jobs_words, relay_state, relay_state_floats}
 use Rattle.rules.proofs.Loops.{length-ones, get_d_ones, each-alike}
 use Rattle.lists.proofs.Slices.{length-entries, nodes_of-entries, distances_of-entries}
-use Rattle.buffers.proofs.Places.{put-length}
 use Rattle.encoded.proofs.Lists.{room-words, room_floats_lem, word_row, float_row, length-lengths, length_at}
 use Rattle.encoded.proofs.Rows.{length_part}
 use Rattle.relay_state.specs.State.{Sized}
 use Rattle.relay_state.proofs.Parts.{sizes}
 use Rattle.relay_state.proofs.Reading.{joined-ones}
 use Rattle.relay_open.specs.Open.{first_jobs, JobsWritten, ListsPut, DistsPut, StateWritten}
-use Rattle.relay_open.proofs.Rooms.{rooms_long}
 
 module _ {A : Type 0} where
   -- the last part
@@ -33,12 +31,6 @@ module _ {A : Type 0} where
   put_last a v xs ys front e h =
       let behind : drop v (drop a xs) ≡ [] = drop_of_length-le (drop a xs) {i = v} (simp length-drop (omega arith)) in
       rw (behind, e) (ap (λ (l : List A). front ++ l) (append-nil ys))
-
-  -- what stands in front of a part that is put behind it
-  take_put : (a v : ℕ) (xs ys front : List A) → take a xs ≡ front → length front ≡ a → length ys ≡ v → take (a + v) (put_mid a v xs ys) ≡ front ++ ys
-  take_put a v xs ys front e l m =
-      let n = length-append front ys in
-      rw e (ap (take (a + v)) (sym (append_assoc front ys (drop v (drop a xs)))) ∙ take_at (front ++ ys) (drop v (drop a xs)) (a + v) (omega arith))
 
 module _ (n k : ℕ) (us : List ℕ) (fs : List Float) (lu : length us ≡ n * k) (lf : length fs ≡ n * k) where
   abbrev list : ℕ → List Neighbor
@@ -115,26 +107,3 @@ module _ (n k : ℕ) (us : List ℕ) (fs : List Float) (lu : length us ≡ n * k
               ∙ ap (λ (l : List Float). l ++ E) (sym floats_are)
               ∙ ap (λ (l : List Float). room_floats (k + 64) (lists_in n k us fs) ++ l) w.floats;
         }
-
--- ---- the rooms in front of the state
-
-module _ (n k : ℕ) (few : n ≤ 1024) (size : k ≤ 64) where
-  pub dists-put : (fs xs D : List Float) (e : ℕ) → length fs ≡ n * k → n * (k + 64) ≤ length xs → e ≡ n * (k + 64) → D ≡ each (λ (w : ℕ). padded (k + 64) zero32 (part k w fs)) n → DistsPut n k fs xs (put_mid 0 e xs D)
-  dists-put fs xs D e lf room he m_d =
-      let l_d : length D ≡ n * (k + 64) = ap length m_d ∙ rooms_long zero32 n k few size fs lf in
-      record { front = take_at D (drop e xs) (n * (k + 64)) l_d ∙ m_d; long = length-append D (drop e xs) ∙ (let q = length-drop e xs in omega arith) }
-
-  pub lists-put : (us ws A B : List ℕ) (a b : ℕ) → length us ≡ n * k → n * (k + 64) + n ≤ length ws → a ≡ n * (k + 64) → b ≡ n → A ≡ each (λ (w : ℕ). padded (k + 64) 0 (part k w us)) n
-      → B ≡ replicate (length (take b (drop (n * (k + 64)) (put_mid 0 a ws A)))) k → ListsPut n k us ws (put_mid (n * (k + 64)) b (put_mid 0 a ws A) B)
-  lists-put us ws A B a b lu room ha hb m_a m_b =
-      let lens = n * (k + 64) in
-      let one = put_mid 0 a ws A in
-      let l_a : length A ≡ lens = ap length m_a ∙ rooms_long 0 n k few size us lu in
-      let long1 : length one ≡ length ws = length-append A (drop a ws) ∙ (let q = length-drop a ws in omega arith) in
-      let B-is : B ≡ replicate n k = m_b ∙ ap (λ (i : ℕ). replicate i k) (length-take-le b (drop lens one) (simp length-drop (omega arith)) ∙ hb) in
-      let l_b : length B ≡ n = ap length B-is ∙ length-replicate n k in
-      let front1 : take lens one ≡ A = take_at A (drop a ws) lens l_a in
-      record {
-        front = ap (λ (i : ℕ). take (lens + n) (put_mid lens i one B)) hb ∙ take_put lens n one B A front1 l_a l_b ∙ ap (λ (l : List ℕ). l ++ B) m_a ∙ ap (λ (l : List ℕ). each (λ (w : ℕ). padded (k + 64) 0 (part k w us)) n ++ l) B-is;
-        long = put-length lens b one B (omega arith) (l_b ∙ sym hb) ∙ long1;
-      }

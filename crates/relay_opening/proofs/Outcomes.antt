@@ -4,8 +4,8 @@ use mathlib.Core.List.{List}
 use Prim.Native.Nat.{ℕ}
 use lib.ListN.{length, replicate}
 use lib.Ieee.{Float}
-use Rattle.rules.specs.declared.Answer.{Answer}
-use Rattle.rules.specs.declared.Answer.TheVariants.{Done, Refused}
+use Rattle.std.specs.Prelude.{Ok, Err}
+use Rattle.rules.specs.Answers.{Answer}
 use Rattle.rules.specs.declared.Refusal.{Refusal}
 use Rattle.rules.specs.Distance.{nodes_apart, zero32}
 use Rattle.rules.specs.Refusals.{passed, decide, decision_of, said_of}
@@ -18,11 +18,11 @@ use Rattle.relay_opening.specs.Opening.{open_left, Opened}
 use Rattle.relay_opening.proofs.Table.{Ready, ready}
 
 module _ (l : OpenLent) where
-  pub open_refused : {a : Answer} {r : Refusal} → decision_of a ≡ decide (open_table l) → a ≡ Refused r → Opened l (Refused r) l.state_u l.state_f l.scratch_u l.scratch_f
+  pub open_refused : {a : Answer} {r : Refusal} → decision_of a ≡ decide (open_table l) → a ≡ Err r → Opened l (Err r) l.state_u l.state_f l.scratch_u l.scratch_f
   unfolding open_rule open_obeys said_of decision_of
   open_refused {a} {r} e f = record { whole = ap (open_obeys l) (sym (ap decision_of f) ∙ e) }
 
-  pub no_row : {a : Answer} → decision_of a ≡ decide (open_table l) → a ≡ Done → decide (open_table l) ≡ passed
+  pub no_row : {a : Answer} → decision_of a ≡ decide (open_table l) → a ≡ (Ok tt) → decide (open_table l) ≡ passed
   unfolding decision_of
   no_row e f = sym e ∙ ap decision_of f
 
@@ -31,7 +31,7 @@ module _ (l : OpenLent) where
   open_ready h = ready (length l.jobs) (length l.scratch_u) (length l.scratch_f) (nodes_apart l.lanes l.dimension) (lists_formed l.n (lists_in l.n l.k l.nodes l.distances)) h
 
   pub open_done : {us su : List ℕ} {fs sf : List Float} → decide (open_table l) ≡ passed → StateWritten l.k (opened_on l) us fs → su ≡ replicate (length l.scratch_u) 0 → sf ≡ replicate (length l.scratch_f) zero32
-      → Opened l Done us fs su sf
+      → Opened l (Ok tt) us fs su sf
   unfolding open_rule open_obeys said_of
   open_done {us} {su} {fs} {sf} e s p q =
       let a = s.words_are in

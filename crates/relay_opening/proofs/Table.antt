@@ -7,9 +7,8 @@ use native.Mathlib.Nat.{mul-le-mul}
 use native.Mathlib.Omega.{arith}
 use borrow.Author.Tests.{leb-false, eqb-true, not-false, eq-eqb, ne_eqb, lt-ltb, le-ltb}
 use lib.Dec.{leb, ltb, eqb}
-use Rattle.rules.specs.declared.Answer.{Answer}
-use Rattle.rules.specs.declared.Answer.TheVariants.{Done, Refused}
-use Rattle.rules.specs.declared.Distance.{Distance}
+use Rattle.std.specs.Prelude.{Ok, Err}
+use Rattle.rules.specs.Answers.{Answer, Distance}
 use Rattle.rules.specs.declared.Refusal.{Refusal}
 use Rattle.rules.specs.Loops.{any_of}
 use Rattle.rules.specs.Numbers.{outside}
@@ -89,11 +88,11 @@ module _ (dimension n lanes k nodes distances : ℕ) (jobs : List ℕ) (jobs_lon
   size_row = row4 (outside 1 64 k ∷ [])
 
   module _ {a : Answer} (e : decision_of a ≡ decide first) where
-    pub by_game : {r : Refusal} → a ≡ Refused r → decision_of a ≡ decide rows
+    pub by_game : {r : Refusal} → a ≡ Err r → decision_of a ≡ decide rows
     unfolding open_rows
     by_game f = by_answer first (size_row ∷ lengths_row ∷ after_lengths) e f
 
-    module _ (f : a ≡ Done) where
+    module _ (f : a ≡ (Ok tt)) where
       past_game : decide rows ≡ decide (size_row ∷ lengths_row ∷ after_lengths)
       unfolding open_rows
       past_game = past_answer first (size_row ∷ lengths_row ∷ after_lengths) e f
@@ -126,18 +125,18 @@ module _ (dimension n lanes k nodes distances : ℕ) (jobs : List ℕ) (jobs_lon
             past_lengths = past_k ∙ left lengths_row after_lengths (whole g)
 
             module _ {j : Answer} (ej : decision_of j ≡ decide (row9 n jobs ∷ [])) where
-              pub by_jobs : {r : Refusal} → j ≡ Refused r → decision_of j ≡ decide rows
+              pub by_jobs : {r : Refusal} → j ≡ Err r → decision_of j ≡ decide rows
               by_jobs fj = by_answer (row9 n jobs ∷ []) (row10_of_jobs apart jobs ∷ row12 formed ∷ []) ej fj ∙ sym past_lengths
 
-              module _ (fj : j ≡ Done) where
+              module _ (fj : j ≡ (Ok tt)) where
                 past_jobs : decide rows ≡ decide (row10_of_jobs apart jobs ∷ row12 formed ∷ [])
                 past_jobs = past_lengths ∙ past_answer (row9 n jobs ∷ []) (row10_of_jobs apart jobs ∷ row12 formed ∷ []) ej fj
 
                 module _ {u : Answer} (eu : decision_of u ≡ decide (row10_of_jobs apart jobs ∷ [])) where
-                  pub by_unfit : {r : Refusal} → u ≡ Refused r → decision_of u ≡ decide rows
+                  pub by_unfit : {r : Refusal} → u ≡ Err r → decision_of u ≡ decide rows
                   by_unfit fu = by_answer (row10_of_jobs apart jobs ∷ []) (row12 formed ∷ []) eu fu ∙ sym past_jobs
 
-                  module _ (fu : u ≡ Done) where
+                  module _ (fu : u ≡ (Ok tt)) where
                     past_unfit : decide rows ≡ decide (row12 formed ∷ [])
                     past_unfit = past_jobs ∙ past_answer (row10_of_jobs apart jobs ∷ []) (row12 formed ∷ []) eu fu
 
@@ -161,7 +160,7 @@ jobs_in n jobs h =
       vs = λ (i : ℕ) (l : i < job_count jobs). leb-false n (job_v jobs i) (neither (leb n (job_u jobs i)) (leb n (job_v jobs i)) (job-passes n jobs h i l)).1;
     }
 
-pub jobs-passed : {n : ℕ} {jobs : List ℕ} {j : Answer} → decision_of j ≡ decide (row9 n jobs ∷ []) → j ≡ Done → JobsIn n jobs
+pub jobs-passed : {n : ℕ} {jobs : List ℕ} {j : Answer} → decision_of j ≡ decide (row9 n jobs ∷ []) → j ≡ (Ok tt) → JobsIn n jobs
 unfolding decision_of
 jobs-passed {n} {jobs} e f = jobs_in n jobs (all_fail (row9 n jobs ∷ []) (sym e ∙ ap decision_of f)).0
 

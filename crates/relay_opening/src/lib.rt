@@ -10,7 +10,8 @@ ghost use Rattle.rules.specs.Offers.{lists_formed};
 ghost use Rattle.rules.specs.Places.{lists_in};
 ghost use Rattle.relay_opening.specs.Opening.{lent, Opened};
 
-use rules::{Answer, Refusal};
+use metrics::Counters;
+use rules::Refusal;
 
 /// Row 6, of what is lent to read: whether the lists or the jobs have the wrong length.
 fn wrong_lists(n: usize, k: usize, nodes: usize, distances: usize, jobs: usize) -> bool
@@ -57,34 +58,30 @@ fn judge(
     floats: usize,
     su: usize,
     sf: usize,
-) -> Answer
+) -> Result<(), Refusal>
     ensures { decision_of result ≡ decide (open_rows dimension n (length lanes.now) k (length nodes.now) (length distances.now) jobs.now (length jobs.now) words floats (scratch su sf) (nodes_apart lanes.now dimension) (lists_formed n (lists_in n k nodes.now distances.now))) }
 {
-    let g = table::game(dimension, 1024, n, lanes.len());
-    let Answer::Done = g else {
-        return g;
-    };
+    table::game(dimension, 1024, n, lanes.len())?;
     if table::outside(1, 64, k) {
-        return Answer::Refused(Refusal::Parameter);
+        return Err(Refusal::Parameter);
     }
     if wrong_lists(n, k, nodes.len(), distances.len(), jobs.len()) {
-        return Answer::Refused(Refusal::Buffer);
+        return Err(Refusal::Buffer);
     }
     if wrong_places(n, k, words, floats, su, sf) {
-        return Answer::Refused(Refusal::Buffer);
+        return Err(Refusal::Buffer);
     }
-    let j = relay_rows::jobs_row(n, jobs);
-    let Answer::Done = j else {
-        return j;
+    relay_rows::jobs_row(n, jobs)?;
+    let counters = Counters {
+        lanes,
+        dimension,
+        n,
     };
-    let u = relay_rows::unfit_row(lanes, dimension, n, jobs);
-    let Answer::Done = u else {
-        return u;
-    };
+    relay_rows::unfit_row(counters, jobs)?;
     if formed::lists_formed(nodes, distances, n, k) {
-        return Answer::Done;
+        return Ok(());
     }
-    Answer::Refused(Refusal::State)
+    Err(Refusal::State)
 }
 
 /// Opens a relay on lists and jobs (hora's locked `update`s, taken apart): writes its state, with the distance of each job. Rows 1, 2, 3, 4 (k),
@@ -101,10 +98,10 @@ pub fn open(
     state_f: &mut [f32],
     scratch_u: &mut [u32],
     scratch_f: &mut [f32],
-) -> Answer
+) -> Result<(), Refusal>
     ensures { Opened (lent dimension n lanes.now k nodes.now distances.now jobs.now state_u.old state_f.old scratch_u.old scratch_f.old) result state_u.new state_f.new scratch_u.new scratch_f.new }
 {
-    let v = judge(
+    judge(
         dimension,
         n,
         lanes,
@@ -116,16 +113,14 @@ pub fn open(
         state_f.len(),
         scratch_u.len(),
         scratch_f.len(),
-    );
-    match v {
-        Answer::Refused(r) => Answer::Refused(r),
-        Answer::Done => {
-            relay_open::write_state(
-                dimension, n, lanes, k, nodes, distances, jobs, state_u, state_f,
-            );
-            buffers::zero_words(scratch_u);
-            buffers::zero_floats(scratch_f);
-            Answer::Done
-        }
-    }
+    )?;
+    let counters = Counters {
+        lanes,
+        dimension,
+        n,
+    };
+    relay_open::write_state(counters, k, nodes, distances, jobs, state_u, state_f);
+    buffers::zero_words(scratch_u);
+    buffers::zero_floats(scratch_f);
+    Ok(())
 }

@@ -7,7 +7,7 @@ use native.Mathlib.Nat.{mul-le-mul_right}
 use native.Mathlib.Omega.{arith}
 use borrow.Author.Tests.{le-leb, lt-leb, lt-ltb, le-ltb, eq-eqb, ne_eqb}
 use lib.Dec.{eqb}
-use Rattle.rules.specs.declared.Distance.{Distance}
+use Rattle.rules.specs.Answers.{Distance}
 use Rattle.rules.specs.Loops.{first_from}
 use Rattle.rules.specs.Distance.{unfit}
 use Rattle.rules.specs.Numbers.{outside}

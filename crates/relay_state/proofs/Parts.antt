@@ -1,27 +1,23 @@
 -- The tests of the parts of a relay's state, one after another. Assumes nothing.
 use mathlib.Core.Path.{◌≡◌, refl, sym, ap, ◌∙◌}
 use mathlib.Core.Bool.{Bool, true, false}
-use mathlib.Core.List.{List, [], ◌∷◌, ◌++◌, map}
+use mathlib.Core.List.{List, [], ◌∷◌, ◌++◌}
 use Prim.Native.Nat.{ℕ, zero, suc, ◌+◌, ◌-◌, ◌*◌, ◌≤◌, ◌<◌, min}
 use native.Mathlib.Nat.{not-suc-le-zero, le_of_suc-le-suc, mul-suc, suc-mul, mul-le-mul, mul-le-mul_right}
 use native.Mathlib.Numerals.{add-one}
 use native.Mathlib.Omega.{arith}
-use borrow.Author.Tests.{eq-eqb, ne_eqb, le-leb, lt-leb}
 use lib.ListN.{length, take, drop, get_or}
 use lib.Seq.{drop-drop}
-use lib.Ieee.{Float, nan, binary32, to_bits}
+use lib.Ieee.{Float, nan}
 use Rattle.rules.specs.Loops.{each, part}
 use Rattle.rules.specs.Distance.{zero32}
-use Rattle.rules.specs.Numbers.{outside}
-use Rattle.rules.specs.Lists.{entries}
-use Rattle.rules.specs.Offers.{list_formed}
 use Rattle.rules.specs.Relay.{Job}
 use Rattle.rules.specs.RelayPlaces.{job_in, relay_in, pending_at}
 use Rattle.lists.proofs.Plain.{to_end}
-use Rattle.zeros.specs.Zeros.{zeros, all_below}
+use Rattle.zeros.specs.Zeros.{all_below}
 use Rattle.zeros.proofs.Laws.{all_turn, all-not}
 use Rattle.jobs.specs.Jobs.{job_test, PendingJob}
-use Rattle.relay_state.specs.State.{Sized, jobs_test, jobs_of, PendingAll, room_test, room_at}
+use Rattle.relay_state.specs.State.{Sized, jobs_of, PendingAll, room_test, room_at}
 
 module _ {A : Type 0} where
   -- a place that is there is read, whatever would stand for an absent one
@@ -53,30 +49,6 @@ module _ (n : ℕ) (js : List ℕ) (xs : List Float) where
     pub job_turn : i < count → all_below job_ok i ≡ true → job_test n (take (length js - (1 + 15 * i)) (drop (1 + 15 * i) js)) (get_or xs i nan) ≡ true → all_below job_ok (i + 1) ≡ true
     job_turn h inv e = all_turn job_ok i inv (sym (lent-job i (omega arith)) ∙ e)
 
-    pub job-end : i ≤ count → count ≤ i → all_below job_ok i ≡ true → true ≡ all_below job_ok count
-    job-end h g inv = let end : i ≡ count = omega arith in sym inv ∙ ap (all_below job_ok) end
-
-  abbrev count : ℕ
-  count = get_or js 0 0
-
-  pub by_count : outside 1 64 count ≡ true → false ≡ jobs_test n js xs
-  unfolding jobs_test
-  by_count h = rw h
-
-  module _ (within : outside 1 64 count ≡ false) where
-    pub by_job : all_below job_ok count ≡ false → false ≡ jobs_test n js xs
-    unfolding jobs_test
-    by_job h = rw (within, h)
-
-    module _ (good : all_below job_ok count ≡ true) where
-      pub by_words : zeros (drop (1 + 15 * count) js) ≡ false → false ≡ jobs_test n js xs
-      unfolding jobs_test
-      by_words h = rw (within, good, h)
-
-      pub by_floats : zeros (drop (1 + 15 * count) js) ≡ true → zeros (map (to_bits binary32) (drop count xs)) ≡ jobs_test n js xs
-      unfolding jobs_test
-      by_floats h = rw (within, good, h)
-
 -- ---- what is pending
 
 pending-append : (w : ℕ) (a b : List Job) → pending_at w (a ++ b) ≡ pending_at w a + pending_at w b
@@ -101,35 +73,6 @@ pending_turn {js} {i} {w} {r} {s} inv made =
           rw add-one (sym (pending-append w (jobs_of js x i) (job_in (drop (1 + 15 * i) js) (x i) ∷ []) ∙ omega arith));
       few = omega arith;
     }
-
-pub pending-end : {js : List ℕ} {i count w r : ℕ} → i ≤ count → count ≤ i → PendingAll js i w r → PendingAll js count w r
-pending-end {js} {i} {count} {w} {r} h g inv = let end : i ≡ count = omega arith in rw end at inv
-
--- ---- one room
-
-module _ (n want len : ℕ) (ns : List ℕ) (ds : List Float) where
-  pub by_length : (len ≡ want → ⊥) → false ≡ room_test n want len ns ds
-  unfolding room_test
-  by_length h = rw (ne_eqb len want h)
-
-  module _ (same : len ≡ want) where
-    pub by_room : length ns < len → false ≡ room_test n want len ns ds
-    unfolding room_test
-    by_room h = rw (eq-eqb len want same, lt-leb len (length ns) h)
-
-    module _ (fits : len ≤ length ns) where
-      pub by_nodes : zeros (drop len ns) ≡ false → false ≡ room_test n want len ns ds
-      unfolding room_test
-      by_nodes h = rw (eq-eqb len want same, le-leb len (length ns) fits, h)
-
-      module _ (free : zeros (drop len ns) ≡ true) where
-        pub by_dists : zeros (map (to_bits binary32) (drop len ds)) ≡ false → false ≡ room_test n want len ns ds
-        unfolding room_test
-        by_dists h = rw (eq-eqb len want same, le-leb len (length ns) fits, free, h)
-
-        pub by_list : zeros (map (to_bits binary32) (drop len ds)) ≡ true → list_formed n (entries len ns ds) ≡ room_test n want len ns ds
-        unfolding room_test
-        by_list h = rw (eq-eqb len want same, le-leb len (length ns) fits, free, h)
 
 -- ---- where things lie
 
@@ -194,6 +137,3 @@ module _ {n k : ℕ} {us : List ℕ} {fs : List Float} (z : Sized n k us fs) (co
     pub room_turn : all_below (room_at n k us fs) w ≡ true → room_test n (k + p) (get_or us (n * (k + 64) + w) 0) (take m (drop (w * (k + 64)) us)) (take m (drop (w * (k + 64)) fs)) ≡ true
         → all_below (room_at n k us fs) (w + 1) ≡ true
     room_turn inv e = all_turn (room_at n k us fs) w inv (sym lent-room ∙ e)
-
-pub room-end : (n k w : ℕ) (us : List ℕ) (fs : List Float) → w ≤ n → n ≤ w → all_below (room_at n k us fs) w ≡ true → true ≡ all_below (room_at n k us fs) n
-room-end n k w us fs h g inv = let end : w ≡ n = omega arith in sym inv ∙ ap (all_below (room_at n k us fs)) end

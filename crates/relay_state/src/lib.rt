@@ -15,33 +15,25 @@ fn each_formed(jobs: &[u32], dists: &[f32], count: usize, n: usize) -> bool
     requires { (count ≤ 64) × (length jobs.now ≡ 1024) × (length dists.now ≡ 64) }
     ensures { result ≡ all_below (λ i. job_test n (drop (1 + 15 * i) jobs.now) (get_or dists.now i zero32)) count }
 {
-    let mut i = 0;
-    while i < count {
-        let at = 1 + 15 * i;
-        if !jobs::job_formed(&jobs[at..], dists[i], n) {
+    for i in 0..count {
+        if !jobs::job_formed(&jobs[1 + 15 * i..], dists[i], n) {
             return false;
         }
-        i += 1;
     }
     true
 }
 
 /// Whether the number of jobs, the jobs, and what lies behind them are well formed.
+#[tactic(auto, using(std::proofs::lemmas::Bool::Decides::nat_tests), unfolding(crate::specs::State::jobs_test, rules::specs::Numbers::outside))]
 fn jobs_formed(jobs: &[u32], dists: &[f32], n: usize) -> bool
     requires { (length jobs.now ≡ 1024) × (length dists.now ≡ 64) }
     ensures { result ≡ jobs_test n jobs.now dists.now }
 {
     let count = jobs[0] as usize;
-    if table::outside(1, 64, count) {
-        return false;
-    }
-    if !each_formed(jobs, dists, count, n) {
-        return false;
-    }
-    if !zeros::words_zero(jobs, 1 + 15 * count) {
-        return false;
-    }
-    zeros::floats_zero(dists, count)
+    !table::outside(1, 64, count)
+        && each_formed(jobs, dists, count, n)
+        && zeros::words_zero(jobs, 1 + 15 * count)
+        && zeros::floats_zero(dists, count)
 }
 
 /// How many halves of the first `count` jobs have pushed to node `w`'s list and not yet popped.
@@ -50,33 +42,23 @@ fn pending_at(jobs: &[u32], count: usize, w: NodeId) -> usize
     ensures { PendingAll jobs.now count w.0 result }
 {
     let mut total = 0;
-    let mut i = 0;
-    while i < count {
-        let at = 1 + 15 * i;
-        total += jobs::pending(&jobs[at..], w);
-        i += 1;
+    for i in 0..count {
+        total += jobs::pending(&jobs[1 + 15 * i..], w);
     }
     total
 }
 
 /// Whether a list's room is well formed: `want` entries and no more, the list, and zeros behind it.
+#[tactic(auto, using(std::proofs::lemmas::Bool::Decides::nat_tests), unfolding(crate::specs::State::room_test))]
 fn room_formed(nodes: &[u32], dists: &[f32], len: usize, want: usize, n: usize) -> bool
     requires { length dists.now ≡ length nodes.now }
     ensures { result ≡ room_test n want len nodes.now dists.now }
 {
-    if len != want {
-        return false;
-    }
-    if nodes.len() < len {
-        return false;
-    }
-    if !zeros::words_zero(nodes, len) {
-        return false;
-    }
-    if !zeros::floats_zero(dists, len) {
-        return false;
-    }
-    formed::list_formed(nodes, dists, len, n)
+    len == want
+        && len <= nodes.len()
+        && zeros::words_zero(nodes, len)
+        && zeros::floats_zero(dists, len)
+        && formed::list_formed(nodes, dists, len, n)
 }
 
 /// Whether the room of every list is well formed, each list at `k` and the halves of the `count` jobs that are pending.
@@ -87,8 +69,7 @@ fn rooms_formed(words: &[u32], floats: &[f32], n: usize, k: usize, count: usize)
     let room = k + 64;
     let lens = n * room;
     let jobs = lens + n;
-    let mut w = 0;
-    while w < n {
+    for w in 0..n {
         let from = w * room;
         let to = from + room;
         let len = words[lens + w] as usize;
@@ -96,7 +77,6 @@ fn rooms_formed(words: &[u32], floats: &[f32], n: usize, k: usize, count: usize)
         if !room_formed(&words[from..to], &floats[from..to], len, want, n) {
             return false;
         }
-        w += 1;
     }
     true
 }
@@ -108,8 +88,6 @@ pub fn relay_formed(words: &[u32], floats: &[f32], n: usize, k: usize) -> bool
 {
     let lens = n * (k + 64);
     let jobs = lens + n;
-    if !jobs_formed(&words[jobs..], &floats[lens..], n) {
-        return false;
-    }
-    rooms_formed(words, floats, n, k, words[jobs] as usize)
+    jobs_formed(&words[jobs..], &floats[lens..], n)
+        && rooms_formed(words, floats, n, k, words[jobs] as usize)
 }

@@ -1,13 +1,13 @@
 -- What the renewal of lists leaves, what the reversed lists count on, and what both leave. Assumes nothing.
 use mathlib.Core.Path.{◌≡◌, sym, ap, ◌∙◌, subst}
-use mathlib.Core.List.{List, [], ◌∷◌, ◌++◌, append-nil}
+use mathlib.Core.List.{List, [], ◌∷◌}
 use Prim.Native.Nat.{ℕ, ◌+◌, ◌-◌, ◌*◌, ◌≤◌, ◌<◌}
 use native.Mathlib.Nat.{mul-le-mul, mul_assoc}
 use native.Mathlib.Omega.{arith}
 use borrow.Rule.Slice.PartMut.{mid_of, put_mid}
-use lib.ListN.{length, take, drop, length-drop, drop_of_length-le}
+use lib.ListN.{length, take, drop, length-drop}
 use lib.Seq.{length-take-le, take-take, take_all}
-use Rattle.rules.specs.Loops.{each, over}
+use Rattle.rules.specs.Loops.{each}
 use Rattle.rules.specs.Descent.{Context, Met, renew_all, members_back, drawn_after, kept_back, reversed_old_of, reversed_new_of, context_of, renewed}
 use Rattle.rules.specs.DescentPlaces.{member_words, context_words, pair_words}
 use Rattle.rules.proofs.Loops.{length-ones, get_d_ones}
@@ -49,25 +49,19 @@ module _ (draws : List ℕ) (n k s : ℕ) {us : List ℕ} (L : Lists n k us) whe
     pub walkable : Held n k us → News n ws1
     walkable H = news_walkable (in_scratch H.met H.ready) (good_of H.met H.ready) room
 
-    module _ {us1 cs : List ℕ} {a : ℕ} (M : visits.Marked (marks_at n k) n (unvisit_each n ws1 n) us us1) (ea : a ≡ 260 * n) (copied : cs ≡ over (260 * n) ws1 (mid_of (n * k) a us1)) where
+    module _ {us1 cs : List ℕ} {a : ℕ} (M : visits.Marked (marks_at n k) n (unvisit_each n ws1 n) us us1) (ea : a ≡ 260 * n) (copied : cs ≡ take (260 * n) ws1) where
       fits : n * k + 260 * n ≤ length us1
       fits = let w = L.words in let l = M.long in omega arith
 
-      cs_is : cs ≡ take (260 * n) ws1
-      unfolding over
-      cs_is =
-          copied
-          ∙ rw ea (ap (λ (zs : List ℕ). take (260 * n) ws1 ++ zs) (drop_of_length-le (area (n * k) (260 * n) us1) {i = 260 * n} (let e = length-area (n * k) (260 * n) us1 fits in omega arith)) ∙ append-nil (take (260 * n) ws1))
-
       cs_long : length cs ≡ 260 * n
-      cs_long = ap length cs_is ∙ length-take-le (260 * n) ws1 room
+      cs_long = ap length copied ∙ length-take-le (260 * n) ws1 room
 
       pub lists-renewed : ListsRenewed draws n k s us (put_mid (n * k) a us1 cs) ws ws1 total at
       lists-renewed =
           rw ea
           (record {
             contexts = λ m Q.
-                subst (λ (xs : List ℕ). RenewedIn (renewed_of draws n s m) xs total at n) (sym (put-area (n * k) (260 * n) us1 cs fits cs_long ∙ cs_is))
+                subst (λ (xs : List ℕ). RenewedIn (renewed_of draws n s m) xs total at n) (sym (put-area (n * k) (260 * n) us1 cs fits cs_long ∙ copied))
                 (renewed_as (λ i h. area_in (260 * i) 65 (260 * n) ws1 (omega arith)) (λ i h. area_in (260 * i + 65) 65 (260 * n) ws1 (omega arith)) (in_scratch m Q));
             marks = λ m Q.
                 let H = M.marked m.visited Q.source.marks in

@@ -25,7 +25,7 @@ fn renew_lists(
     let mut found = [0u32; 64];
     let drawn = renews::renew_all(words, n, k, s, draws, &mut found, scratch);
     unvisits::unvisit_all(words, marks, n, scratch);
-    buffers::copy_words(260 * n, scratch, &mut words[lists..marks]);
+    words[lists..marks].copy_from_slice(&scratch[..260 * n]);
     drawn
 }
 

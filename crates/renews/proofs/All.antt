@@ -1,5 +1,5 @@
 -- The new and old lists of all nodes, one context after the other. Assumes nothing.
-use mathlib.Core.Path.{◌≡◌, refl, sym, ap, ◌∙◌, subst}
+use mathlib.Core.Path.{◌≡◌, refl, sym, ap, ◌∙◌}
 use mathlib.Core.Bool.{Bool, true, false}
 use mathlib.Core.List.{List, [], ◌∷◌, ◌++◌}
 use Prim.Native.Nat.{ℕ, zero, suc, ◌+◌, ◌*◌, ◌≤◌, ◌<◌}
@@ -9,7 +9,7 @@ use native.Mathlib.Omega.{arith}
 use borrow.Author.Tests.{ltb-true, ltb-false}
 use borrow.Rule.Slice.PartMut.{put_mid}
 use lib.Dec.{ltb}
-use lib.ListN.{length, take, drop, get_or, length-append, get_or-append}
+use lib.ListN.{length, get_or, length-append, get_or-append}
 use lib.Seq.{get_or_at}
 use Rattle.rules.specs.declared.Neighbor.{Neighbor}
 use Rattle.rules.specs.Loops.{turns}
@@ -17,7 +17,7 @@ use Rattle.rules.specs.Descent.{Renewed, renew, list_at, new_of, old_of, drawn_a
 use Rattle.rules.specs.DescentPlaces.{member_words}
 use Rattle.rules.proofs.Loops.{turns_turn}
 use Rattle.buffers.specs.Area.{area}
-use Rattle.buffers.proofs.Places.{length-area, put-length, put-area, put_low}
+use Rattle.buffers.proofs.Places.{put-length, put-area, put_low}
 use Rattle.renews.specs.Renews.{Source, NewPut, OldPut, renewed_to, RenewedIn, Renews}
 
 -- ---- a list that grows at its end
@@ -131,10 +131,3 @@ module _ {draws : List ℕ} {n k s : ℕ} {us : List ℕ} where
           (put-area (260 * i + 65) 65 mid dst' fits' b.dst_long ∙ b.list flags lists src)
           (a.totalled flags lists src)
           (a.drawn flags lists src)
-
-  pub renews_to : {xs₀ xs : List ℕ} {total at i j : ℕ} → i ≡ j → Renews draws n k s us xs₀ xs total at i → Renews draws n k s us xs₀ xs total at j
-  renews_to {xs₀} {xs} {total} {at} e r = subst (Renews draws n k s us xs₀ xs total at) e r
-
--- the part that the code cuts out
-pub cut_long : (a w : ℕ) (xs : List ℕ) → w ≡ 65 → a + 65 ≤ length xs → length (take w (drop a xs)) ≡ 65
-cut_long a w xs e h = rw e (length-area a 65 xs h)

@@ -1,14 +1,14 @@
 -- Entries gathered by their pairs. Assumes nothing.
 use mathlib.Core.Path.{◌≡◌, refl, sym, ap, ◌∙◌}
-use mathlib.Core.Bool.{Bool, true, false, cond, not, ◌&&◌}
+use mathlib.Core.Bool.{Bool, true, false, cond, not, beq, ◌&&◌}
 use mathlib.Core.List.{List, [], ◌∷◌, ◌++◌, append-nil}
-use Prim.Native.Nat.{ℕ, suc, ◌+◌, ◌*◌, ◌≤◌, ◌<◌}
+use Prim.Native.Nat.{ℕ, ◌+◌, ◌-◌, ◌*◌, ◌≤◌, ◌<◌}
 use native.Mathlib.Numerals.{add-one}
 use native.Mathlib.Omega.{arith}
 use borrow.Author.Tests.{eq-eqb, ne_eqb}
 use lib.Dec.{eqb}
 use lib.ListN.{length, take, drop, get_or, set, length-set, length-drop, length-take}
-use lib.Seq.{take-suc, take-suc-set, take-set-le, get_or-take, get_or-drop, take_all, length-take-le}
+use lib.Seq.{take-suc, take-suc-set, take_all, length-take-le}
 use Rattle.rules.specs.declared.Neighbor.{Neighbor}
 use Rattle.rules.specs.Loops.{part}
 use Rattle.rules.specs.Lists.{node_of, nodes_of}
@@ -17,18 +17,25 @@ use Rattle.lists.specs.All.{All}
 use Rattle.lists.proofs.Plain.{all-at}
 use Rattle.visits.specs.Marks.{Holds}
 use Rattle.meets.specs.Meets.{marks_at}
-use Rattle.renews.specs.Renews.{taken, counted, chosen, Gathered}
+use Rattle.renews.specs.Renews.{taken, chosen, Gathered}
 
 -- ---- one entry
 
-module _ (n i : ℕ) (flags : List Bool) (v : ℕ) where
-  pub counted_none : (w : Bool) → n ≤ v → v ≤ n → 0 ≡ counted w n i flags v
-  unfolding counted taken
-  counted_none w h l = let e : v ≡ n = omega arith in rw (eq-eqb v n e)
+module _ (n i : ℕ) (flags : List Bool) (v : ℕ) (w : Bool) where
+  pub taken_none : n ≤ v → v ≤ n → false ≡ taken w n i flags v
+  unfolding taken
+  taken_none h l = let e : v ≡ n = omega arith in rw (eq-eqb v n e)
 
-  pub counted_is : (w b : Bool) → v < n → is_visited n i v flags ≡ b → cond (cond w b (not b)) 1 0 ≡ counted w n i flags v
-  unfolding counted taken
-  counted_is w b h e = rw (ne_eqb v n (λ (q : v ≡ n). let z : n ≡ v = sym q in absurd (omega arith)), e)
+  pub taken_is : v < n → cond w (is_visited n i v flags) (not (is_visited n i v flags)) ≡ taken w n i flags v
+  unfolding taken
+  taken_is h = rw (ne_eqb v n (λ (q : v ≡ n). let z : n ≡ v = sym q in absurd (omega arith)))
+
+-- a pair visited or not as asked
+pub as_asked : (b w : Bool) → beq b w ≡ cond w b (not b)
+as_asked true true = refl
+as_asked true false = refl
+as_asked false true = refl
+as_asked false false = refl
 
 -- ---- new and old
 
@@ -54,6 +61,15 @@ chosen_more w n i flags (x ∷ xs) v = go (taken w n i flags x) (chosen_more w n
     go true e = ap (λ (l : List ℕ). x ∷ l) e
     go false e = e
 
+-- ---- a list as the code cuts it out, and its length
+
+pub part_cut : (k i : ℕ) (us : List ℕ) → i * k + k ≤ length us → (take (i * k + k - i * k) (drop (i * k) us) ≡ part k i us) × (length (take (i * k + k - i * k) (drop (i * k) us)) ≡ k)
+unfolding part
+part_cut k i us fits =
+    let e : i * k + k - i * k ≡ k = omega arith in
+    let d = length-drop (i * k) us in
+    (ap (λ (m : ℕ). take m (drop (i * k) us)) e, rw e (length-take-le k (drop (i * k) us) (omega arith)))
+
 -- ---- the first j entries of a list are passed
 
 pub record Gathering (n k i : ℕ) (w : Bool) (us out : List ℕ) (len j : ℕ) : Type 0 where
@@ -67,42 +83,42 @@ module _ (n k i : ℕ) (w : Bool) (us : List ℕ) where
   unfolding chosen
   gathering_none e = record { list = λ flags h b. refl; long = e; low = omega arith; within = omega arith }
 
-  pub gathering_more : {out : List ℕ} {len j r v : ℕ} → Gathering n k i w us out len j → j < k → k ≤ 64 → i * k + k ≤ length us → v ≡ get_or us (i * k + j) 0
-      → (r ≤ 1) × ((flags : List Bool) → Holds (marks_at n k) n flags us → v ≤ n → r ≡ counted w n i flags v) → Gathering n k i w us (set out len v) (len + r) (j + 1)
-  unfolding part counted
-  gathering_more {out} {len} {j} {r} {v} inv h narrow fits e c =
-      let one = c.0 in
-      let low = inv.low in
-      let long = inv.long in
-      record {
-        list = λ flags held below.
-            let v-is : v ≡ get_or xs j 0 = e ∙ sym (get_or-take k (drop (i * k) us) j 0 h ∙ get_or-drop (i * k) us j 0) in
-            let at : v ≤ n = rw v-is (all-at (λ (x : ℕ). x ≤ n) xs j 0 below (omega (arith, xs_long))) in
-            step (taken w n i flags v) (c.1 flags held at)
-            ∙ ap (λ (l : List ℕ). l ++ cond (taken w n i flags v) (v ∷ []) []) (inv.list flags held below)
-            ∙ sym (chosen_more w n i flags (take j xs) v)
-            ∙ ap (λ (x : ℕ). chosen w n i flags (take j xs ++ (x ∷ []))) v-is
-            ∙ ap (chosen w n i flags) (sym (take-suc xs j 0 (omega (arith, xs_long))) ∙ ap (λ (m : ℕ). take m xs) (sym (add-one j)));
-        long = length-set out len v ∙ inv.long;
-        low = omega arith;
-        within = omega arith;
-      }
-    where
-      xs : List ℕ
-      xs = take k (drop (i * k) us)
+  module _ {out : List ℕ} {len j v : ℕ} (inv : Gathering n k i w us out len j) (h : j < k) (fits : i * k + k ≤ length us) (e : v ≡ get_or (part k i us) j 0) where
+    one_more : (b : Bool) {out' : List ℕ} {len' : ℕ} → ((flags : List Bool) → Holds (marks_at n k) n flags us → v ≤ n → b ≡ taken w n i flags v)
+        → take len' out' ≡ take len out ++ cond b (v ∷ []) [] → length out' ≡ 64 → len' ≤ j + 1 → Gathering n k i w us out' len' (j + 1)
+    unfolding part
+    one_more b {out'} {len'} is step long low =
+        record {
+          list = λ flags held below.
+              let at : v ≤ n = rw e (all-at (λ (x : ℕ). x ≤ n) xs j 0 below (omega (arith, xs_long))) in
+              step
+              ∙ ap (λ (t : Bool). take len out ++ cond t (v ∷ []) []) (is flags held at)
+              ∙ ap (λ (l : List ℕ). l ++ cond (taken w n i flags v) (v ∷ []) []) (inv.list flags held below)
+              ∙ sym (chosen_more w n i flags (take j xs) v)
+              ∙ ap (λ (x : ℕ). chosen w n i flags (take j xs ++ (x ∷ []))) e
+              ∙ ap (chosen w n i flags) (sym (take-suc xs j 0 (omega (arith, xs_long))) ∙ ap (λ (m : ℕ). take m xs) (sym (add-one j)));
+          long = long;
+          low = low;
+          within = omega arith;
+        }
+      where
+        xs : List ℕ
+        xs = take k (drop (i * k) us)
 
-      xs_long : length xs ≡ k
-      xs_long = length-take-le k (drop (i * k) us) (let d = length-drop (i * k) us in omega arith)
+        xs_long : length xs ≡ k
+        xs_long = length-take-le k (drop (i * k) us) (let d = length-drop (i * k) us in omega arith)
 
-      step : (b : Bool) → r ≡ cond b 1 0 → take (len + r) (set out len v) ≡ take len out ++ cond b (v ∷ []) []
-      step true f =
-          let low = inv.low in
-          let long = inv.long in
-          let m : len + r ≡ suc len = omega arith in
-          ap (λ (q : ℕ). take q (set out len v)) m ∙ take-suc-set out len v (omega arith)
-      step false f =
-          let m : len + r ≡ len = omega arith in
-          ap (λ (q : ℕ). take q (set out len v)) m ∙ take-set-le len out len v (omega arith) ∙ sym (append-nil (take len out))
+    pub gathering_taken : k ≤ 64 → {b : Bool} → b ≡ true → ((flags : List Bool) → Holds (marks_at n k) n flags us → v ≤ n → b ≡ taken w n i flags v)
+        → Gathering n k i w us (set out len v) (len + 1) (j + 1)
+    gathering_taken narrow t is =
+        let low = inv.low in
+        let long = inv.long in
+        one_more true (λ flags held at. sym t ∙ is flags held at) (ap (λ (q : ℕ). take q (set out len v)) (add-one len) ∙ take-suc-set out len v (omega arith)) (length-set out len v ∙ long) (omega arith)
+
+    pub gathering_passed : {b : Bool} → b ≡ false → ((flags : List Bool) → Holds (marks_at n k) n flags us → v ≤ n → b ≡ taken w n i flags v) → Gathering n k i w us out len (j + 1)
+    gathering_passed t is =
+        let low = inv.low in
+        one_more false (λ flags held at. sym t ∙ is flags held at) (sym (append-nil (take len out))) inv.long (omega arith)
 
   pub gathering_end : {out : List ℕ} {len j : ℕ} → Gathering n k i w us out len j → k ≤ j → Gathered n k i w us out len
   unfolding part

@@ -15,10 +15,6 @@ use Rattle.shuffles.proofs.Laws.{drawn-same, drawn-few}
 use Rattle.renews.specs.Renews.{Gathered, Source, NewPut, OldPut, chosen}
 use Rattle.renews.proofs.Laws.{chosen-new, chosen-old}
 
--- the part of the slice that the code cuts out
-first_part : (len : ℕ) (found : List ℕ) → take (len - 0) (drop 0 found) ≡ take len found
-first_part len found = ap (λ (m : ℕ). take m found) (let e : len - 0 ≡ len = omega arith in e)
-
 module _ {n k i : ℕ} {us found : List ℕ} {len : ℕ} (narrow : k ≤ 64) (below : i < n) where
   gathered_long : {w : Bool} → Gathered n k i w us found len → length (take len found) ≡ len
   gathered_long g = let l = g.long in let m = g.most in length-take-le len found (omega arith)
@@ -31,48 +27,48 @@ module _ {n k i : ℕ} {us found : List ℕ} {len : ℕ} (narrow : k ≤ 64) (be
   gathered_old g flags lists h =
       g.list flags h.marks (h.below i below) ∙ ap (chosen false n i flags) (sym (h.nodes i below)) ∙ chosen-old n i flags (list_at lists i)
 
-  pub old-put : {dst : List ℕ} → Gathered n k i false us found len → dst ≡ member_words (take (len - 0) (drop 0 found)) → OldPut n k i us found dst
+  pub old-put : {dst : List ℕ} → Gathered n k i false us found len → dst ≡ member_words (take len found) → OldPut n k i us found dst
   old-put {dst} g e =
       let long = gathered_long g in
       let m = g.most in
-      let is : dst ≡ member_words (take len found) = e ∙ ap member_words (first_part len found) in
+      let is : dst ≡ member_words (take len found) = e in
       record {
         list = λ flags lists h. is ∙ ap member_words (gathered_old g flags lists h);
         found_long = g.long;
         dst_long = ap length is ∙ length-member_words (take len found) (omega arith);
       }
 
-  module _ {draws : List ℕ} {s at : ℕ} {ys : List ℕ} {from : ℕ} (g : Gathered n k i true us found len) (kept : KeptNew draws s at (take (len - 0) (drop 0 found)) ys from) where
+  module _ {draws : List ℕ} {s at : ℕ} {ys : List ℕ} {from : ℕ} (g : Gathered n k i true us found len) (kept : KeptNew draws s at (take len found) ys from) where
     ys_long : length ys ≡ len
-    ys_long = kept.long ∙ ap length (first_part len found) ∙ gathered_long g
+    ys_long = kept.long ∙ gathered_long g
 
     abbrev left : List ℕ
-    left = ys ++ drop (len - 0) (drop 0 found)
+    left = ys ++ drop len found
 
     pub left-long : length left ≡ 64
     left-long =
         let y = ys_long in
         let l = g.long in
         let m = g.most in
-        let d = length-drop (len - 0) (drop 0 found) in
-        length-append ys (drop (len - 0) (drop 0 found)) ∙ omega arith
+        let d = length-drop len found in
+        length-append ys (drop len found) ∙ omega arith
 
-    pub shuffled-part : take (len - 0) (drop 0 left) ≡ ys
-    shuffled-part = take_at ys (drop (len - 0) (drop 0 found)) (len - 0) (ys_long ∙ (let e : len ≡ len - 0 = omega arith in e))
+    pub shuffled-part : take len left ≡ ys
+    shuffled-part = take_at ys (drop len found) len ys_long
 
     pub from_low : from ≤ len
-    from_low = let f = kept.from in let e = ap length (first_part len found) ∙ gathered_long g in omega arith
+    from_low = let f = kept.from in let e = gathered_long g in omega arith
 
     kept-part : take (len - from) (drop from left) ≡ drop from ys
     kept-part =
         let y = ys_long in
         let f = from_low in
         let d = length-drop from ys in
-        ap (take (len - from)) (drop-append-le from ys (drop (len - 0) (drop 0 found)) (omega arith))
-        ∙ take-append-le (len - from) (drop from ys) (drop (len - 0) (drop 0 found)) (omega arith)
+        ap (take (len - from)) (drop-append-le from ys (drop len found) (omega arith))
+        ∙ take-append-le (len - from) (drop from ys) (drop len found) (omega arith)
         ∙ take_all (len - from) (drop from ys) (omega arith)
 
-    pub new-put : {dst : List ℕ} {total next : ℕ} → next ≡ drawn_after s at (take (len - 0) (drop 0 left)) → dst ≡ member_words (take (len - from) (drop from left))
+    pub new-put : {dst : List ℕ} {total next : ℕ} → next ≡ drawn_after s at (take len left) → dst ≡ member_words (take (len - from) (drop from left))
         → NewPut draws n k s i us total at left dst (total + len) next
     new-put {dst} {total} {next} after e =
         let y = ys_long in
@@ -83,7 +79,7 @@ module _ {n k i : ℕ} {us found : List ℕ} {len : ℕ} (narrow : k ≤ 64) (be
         let d = length-drop from ys in
         let high = drawn-few s at (take len found) in
         record {
-          list = λ flags lists h. is ∙ ap member_words (kept.list ∙ ap (kept_new draws s at) (first_part len found ∙ gathered_new g flags lists h));
+          list = λ flags lists h. is ∙ ap member_words (kept.list ∙ ap (kept_new draws s at) (gathered_new g flags lists h));
           totalled = λ flags lists h. ap (λ (c : ℕ). total + c) (sym long ∙ ap length (gathered_new g flags lists h));
           drawn = λ flags lists h. drew ∙ ap (drawn_after s at) (gathered_new g flags lists h);
           found_long = left-long;
@@ -91,6 +87,3 @@ module _ {n k i : ℕ} {us found : List ℕ} {len : ℕ} (narrow : k ≤ 64) (be
           most = omega arith;
           last = omega arith;
         }
-
-    pub length-shuffled : length (take (len - 0) (drop 0 left)) ≡ len
-    length-shuffled = ap length shuffled-part ∙ ys_long

@@ -15,9 +15,6 @@ use Rattle.meets.specs.Meets.{marks_at}
 unfoldable pub taken : Bool → ℕ → ℕ → List Bool → ℕ → Bool
 taken visited n i flags v = not (eqb v n) && cond visited (is_visited n i v flags) (not (is_visited n i v flags))
 
-unfoldable pub counted : Bool → ℕ → ℕ → List Bool → ℕ → ℕ
-counted visited n i flags v = cond (taken visited n i flags v) 1 0
-
 -- those of a list
 unfoldable pub chosen : Bool → ℕ → ℕ → List Bool → List ℕ → List ℕ
 chosen visited n i flags [] = []

@@ -3,7 +3,7 @@
 
 ghost use Rattle.std.specs.Prelude.{◌≡◌, Bool, List, ◌+◌, ◌*◌, ◌/◌, ◌≤◌, ◌<◌, length};
 ghost use Rattle.visits.specs.Marks.{Holds};
-ghost use Rattle.renews.specs.Renews.{Lists, counted, Gathered, NewPut, OldPut, Renews};
+ghost use Rattle.renews.specs.Renews.{Lists, taken, Gathered, NewPut, OldPut, Renews};
 
 use rules::NodeId;
 
@@ -14,25 +14,12 @@ pub struct Drawn {
     pub at: usize,
 }
 
-// 1 where an entry of node `i`'s list is filled and its pair visited, or where it is filled and not visited; 0 otherwise.
-fn counts(words: &[u32], base: usize, n: usize, i: NodeId, v: NodeId, visited: bool) -> usize
+// Whether an entry of node `i`'s list is filled, and its pair visited or not as asked.
+fn is_taken(words: &[u32], base: usize, n: usize, i: NodeId, v: NodeId, visited: bool) -> bool
     requires { (n ≤ 1024) × (i.0 < n) × (length words.now ≡ base + (n * n + 31) / 32) }
-    ensures { (result ≤ 1) × ((flags : List Bool) → Holds base n flags words.now → v.0 ≤ n → result ≡ counted visited n i.0 flags v.0) }
+    ensures { (flags : List Bool) → Holds base n flags words.now → v.0 ≤ n → result ≡ taken visited n i.0 flags v.0 }
 {
-    if n <= v.0 as usize {
-        return 0;
-    }
-    let is = visits::is_visited(words, base, n, i, v);
-    if visited {
-        if is {
-            return 1;
-        }
-        return 0;
-    }
-    if is {
-        return 0;
-    }
-    1
+    (v.0 as usize) < n && visits::is_visited(words, base, n, i, v) == visited
 }
 
 // Writes the filled entries of node `i`'s list whose pairs are visited, or those whose are not, to the front of `out`, in order.
@@ -42,13 +29,12 @@ fn gather(words: &[u32], n: usize, k: usize, i: NodeId, visited: bool, out: &mut
 {
     let base = n * k + 260 * n;
     let from = i.0 as usize * k;
-    let mut len: usize = 0;
-    let mut j: usize = 0;
-    while j < k {
-        let v = words[from + j];
-        out[len] = v;
-        len += counts(words, base, n, i, NodeId(v), visited);
-        j += 1;
+    let mut len = 0;
+    for &v in &words[from..from + k] {
+        if is_taken(words, base, n, i, NodeId(v), visited) {
+            out[len] = v;
+            len += 1;
+        }
     }
     len
 }
@@ -70,8 +56,8 @@ fn renew_new(
 {
     let len = gather(words, n, k, i, true, found);
     let at = so_far.at;
-    let from = shuffles::keep_new(&mut found[0..len], s, draws, at);
-    let next = shuffles::drawn_after(&found[0..len], s, at);
+    let from = shuffles::keep_new(&mut found[..len], s, draws, at);
+    let next = shuffles::drawn_after(&found[..len], s, at);
     members::put_members(&found[from..len], dst);
     Drawn {
         total: so_far.total + len,
@@ -85,7 +71,7 @@ fn renew_old(words: &[u32], n: usize, k: usize, i: NodeId, found: &mut [u32], ds
     ensures { OldPut n k i.0 words.now found.new dst.new }
 {
     let len = gather(words, n, k, i, false, found);
-    members::put_members(&found[0..len], dst);
+    members::put_members(&found[..len], dst);
 }
 
 /// Writes the new and the old list of every node, rising, to contexts of 260 words each; all pairs are read before any is cleared
@@ -102,16 +88,13 @@ pub fn renew_all(
     requires { Lists n k words.now × (length found.old ≡ 64) × (260 * n ≤ length contexts.old) × (n * k ≤ length draws.now) }
     ensures { Renews draws.now n k s words.now contexts.old contexts.new result.total result.at n }
 {
-    let mut total: usize = 0;
-    let mut at: usize = 0;
-    let mut i: usize = 0;
-    while i < n {
+    let mut so_far = Drawn { total: 0, at: 0 };
+    for i in 0..n {
         let new = 260 * i;
         let old = new + 65;
         let end = old + 65;
         let node = NodeId(i as u32);
-        let so_far = Drawn { total, at };
-        let next = renew_new(
+        so_far = renew_new(
             words,
             n,
             k,
@@ -123,9 +106,6 @@ pub fn renew_all(
             so_far,
         );
         renew_old(words, n, k, node, found, &mut contexts[old..end]);
-        total = next.total;
-        at = next.at;
-        i += 1;
     }
-    Drawn { total, at }
+    so_far
 }

@@ -1,16 +1,13 @@
--- A list shuffled from its last place down, and what is kept of it. Assumes nothing.
+-- A list shuffled from its last place down, and the draws that are spent. Assumes nothing.
 use mathlib.Core.Path.{◌≡◌, refl, sym, ap, ◌∙◌}
 use mathlib.Core.Bool.{Bool, true, false, cond}
 use mathlib.Core.List.{List}
 use Prim.Native.Nat.{ℕ, zero, suc, ◌+◌, ◌-◌, ◌≤◌, ◌<◌}
 use native.Mathlib.Numerals.{add-one}
 use native.Mathlib.Omega.{arith}
-use borrow.Author.Tests.{lt-ltb, le-ltb}
 use lib.Dec.{ltb}
 use lib.ListN.{length, get_or, set, length-set}
-use lib.Seq.{take-length}
-use Rattle.rules.specs.Descent.{drawn, swap, shuffle_from, shuffle, drawn_after, kept_new, kept_back}
-use Rattle.shuffles.specs.Kept.{KeptNew, KeptBack}
+use Rattle.rules.specs.Descent.{drawn, swap, shuffle_from, shuffle, drawn_after}
 
 pub length-swap : (p q : ℕ) (xs : List ℕ) → length (swap p q xs) ≡ length xs
 unfolding swap
@@ -61,35 +58,6 @@ unfolding shuffle_from
 shuffling_end {draws} {at} {xs₀} {xs} {next} {count} inv h =
     let e : count - 1 ≡ 0 = omega arith in
     sym (ap (λ (p : ℕ). shuffle_from draws next p xs) e) ∙ inv.left
-
--- ---- what is kept
-
-module _ (draws : List ℕ) (s at : ℕ) (xs : List ℕ) where
-  pub new_cut : {ys : List ℕ} → s < length xs → ys ≡ shuffle draws at xs → KeptNew draws s at xs ys s
-  unfolding kept_new
-  new_cut {ys} h e = record { list = rw (e, lt-ltb s (length xs) h); long = ap length e ∙ length-shuffle draws at xs; from = omega arith }
-
-  pub new-all : length xs ≤ s → KeptNew draws s at xs xs 0
-  unfolding kept_new
-  new-all h = record { list = rw (le-ltb s (length xs) h); long = refl; from = omega arith }
-
-  pub back_cut : {ys : List ℕ} → s < length xs → ys ≡ shuffle draws at xs → KeptBack draws s at xs ys s
-  unfolding kept_back
-  back_cut {ys} h e =
-      record { list = rw (e, lt-ltb s (length xs) h); long = ap length e ∙ length-shuffle draws at xs; to = omega arith; few = omega arith }
-
-  pub back-all : length xs ≤ s → KeptBack draws s at xs xs (length xs)
-  unfolding kept_back
-  back-all h = record { list = rw (le-ltb s (length xs) h) (take-length xs); long = refl; to = omega arith; few = h }
-
-module _ (s at : ℕ) (xs : List ℕ) where
-  pub after_cut : s < length xs → at + (length xs - 1) ≡ drawn_after s at xs
-  unfolding drawn_after
-  after_cut h = rw (lt-ltb s (length xs) h)
-
-  pub after-all : length xs ≤ s → at ≡ drawn_after s at xs
-  unfolding drawn_after
-  after-all h = rw (le-ltb s (length xs) h)
 
 -- ---- the draws that are spent
 

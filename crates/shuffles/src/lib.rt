@@ -10,14 +10,7 @@ pub fn drawn(draws: &[u32], n: usize, at: usize) -> usize
     requires { (1 ≤ n) × (at < length draws.now) }
     ensures { (result ≡ drawn draws.now n at) × (result < n) }
 {
-    wide(draws[at]) % n
-}
-
-// A u32 as a place.
-fn wide(x: u32) -> usize
-    ensures { result ≡ x }
-{
-    x as usize
+    draws[at] as usize % n
 }
 
 /// Shuffles the whole slice with the draws from `at` on (hora's `shuffle`): p from the last place down to 1, each swapped with a draw
@@ -27,19 +20,15 @@ pub fn shuffle(xs: &mut [u32], draws: &[u32], at: usize)
     ensures { xs.new ≡ shuffle draws.now at xs.old }
 {
     let mut next = at;
-    let mut count = xs.len();
-    while 1 < count {
-        let p = count - 1;
-        let q = drawn(draws, count, next);
-        let x = xs[p];
-        xs[p] = xs[q];
-        xs[q] = x;
+    for p in (1..xs.len()).rev() {
+        let q = drawn(draws, p + 1, next);
+        xs.swap(p, q);
         next += 1;
-        count = p;
     }
 }
 
 /// Shuffles a new list longer than `s`, and returns the place from which on it is kept: `s`, or 0 where all of it is kept.
+#[tactic(auto, unfolding(rules::specs::Descent::kept_new))]
 pub fn keep_new(xs: &mut [u32], s: usize, draws: &[u32], at: usize) -> usize
     requires { at + (length xs.old - 1) ≤ length draws.now }
     ensures { KeptNew draws.now s at xs.old xs.new result }
@@ -52,6 +41,7 @@ pub fn keep_new(xs: &mut [u32], s: usize, draws: &[u32], at: usize) -> usize
 }
 
 /// Shuffles a reversed list longer than `s`, and returns how many of it are kept: `s`, or all of them.
+#[tactic(auto, unfolding(rules::specs::Descent::kept_back))]
 pub fn keep_back(xs: &mut [u32], s: usize, draws: &[u32], at: usize) -> usize
     requires { at + (length xs.old - 1) ≤ length draws.now }
     ensures { KeptBack draws.now s at xs.old xs.new result }
@@ -65,13 +55,11 @@ pub fn keep_back(xs: &mut [u32], s: usize, draws: &[u32], at: usize) -> usize
 }
 
 /// Where the next draw is, after a list that is shuffled if longer than `s`.
+#[tactic(auto, unfolding(rules::specs::Descent::drawn_after))]
 pub fn drawn_after(xs: &[u32], s: usize, at: usize) -> usize
     requires { at + length xs.now ≤ 4294967296 }
     ensures { result ≡ drawn_after s at xs.now }
 {
     let len = xs.len();
-    if s < len {
-        return at + (len - 1);
-    }
-    at
+    if s < len { at + (len - 1) } else { at }
 }

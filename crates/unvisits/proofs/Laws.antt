@@ -5,7 +5,7 @@ use mathlib.Core.List.{List, [], ◌∷◌}
 use Prim.Native.Nat.{ℕ, ◌+◌, ◌<◌}
 use native.Mathlib.Numerals.{add-one}
 use lib.ListN.{length, take, get_or}
-use lib.Seq.{take-suc, take-length}
+use lib.Seq.{take-suc}
 use Rattle.rules.specs.Loops.{turns, through}
 use Rattle.rules.specs.Descent.{unvisit}
 use Rattle.rules.proofs.Loops.{turns_turn, through-append}
@@ -39,9 +39,6 @@ module _ (base n i : ℕ) (vs : List ℕ) where
   row_more {us} {us'} {us''} {j} a b h =
       marked_as (λ flags. sym (through-append (unvisit n i) (take j vs) (get_or vs j 0 ∷ []) flags) ∙ ap (λ (l : List ℕ). through (unvisit n i) l flags) (sym (take-suc vs j 0 h) ∙ ap (λ (m : ℕ). take m vs) (sym (add-one j)))) (marked_then a b)
 
-  pub row-end : {us us' : List ℕ} (j : ℕ) → Row us us' j → j ≡ length vs → Marked base n (through (unvisit n i) vs) us us'
-  row-end j a e = marked_as (λ flags. ap (λ (l : List ℕ). through (unvisit n i) l flags) (ap (λ (m : ℕ). take m vs) e ∙ take-length vs)) a
-
 -- the pairs of the first i nodes are unvisited
 module _ (base n : ℕ) (contexts : List ℕ) where
   pub each_none : (us : List ℕ) → Marked base n (unvisit_each n contexts 0) us us
@@ -56,6 +53,3 @@ module _ (base n : ℕ) (contexts : List ℕ) where
     where
       f : ℕ → List Bool → List Bool
       f j v = through (unvisit n j) (new_in contexts j) v
-
-pub each_to : {base n : ℕ} (contexts : List ℕ) {us us' : List ℕ} (i j : ℕ) → i ≡ j → Marked base n (unvisit_each n contexts i) us us' → Marked base n (unvisit_each n contexts j) us us'
-each_to {base} {n} contexts {us} {us'} i j e m = subst (λ (c : ℕ). Marked base n (unvisit_each n contexts c) us us') e m

@@ -15,11 +15,9 @@ fn unvisit_row(words: &mut [u32], base: usize, n: usize, i: NodeId, vs: &[u32])
     requires { (n ≤ 1024) × (i.0 < n) × (length words.old ≡ base + marks n) × Below n vs.now }
     ensures { Marked base n (through (unvisit n i.0) vs.now) words.old words.new }
 {
-    let mut j: usize = 0;
-    while j < vs.len() {
-        let v = NodeId(vs[j]);
+    for &v in vs {
+        let v = NodeId(v);
         visits::unvisit(words, base, n, i, v);
-        j += 1;
     }
 }
 
@@ -28,12 +26,10 @@ pub fn unvisit_all(words: &mut [u32], base: usize, n: usize, contexts: &[u32])
     requires { (n ≤ 1024) × (length words.old ≡ base + marks n) × News n contexts.now }
     ensures { Marked base n (unvisit_each n contexts.now n) words.old words.new }
 {
-    let mut i: usize = 0;
-    while i < n {
+    for i in 0..n {
         let at = 260 * i;
         let from = at + 1;
         let to = from + contexts[at] as usize;
         unvisit_row(words, base, n, NodeId(i as u32), &contexts[from..to]);
-        i += 1;
     }
 }

@@ -1,10 +1,6 @@
 -- `backs::back_members` meets its contract: the numbers of the nodes so far stand. Assumes nothing.
-use Prim.Native.Nat.{◌-◌}
 use Rattle.backs.proofs.Laws.{Backing}
 use Rattle.backs.proofs.back_members.Given as goal
 
 abbrev pub invariant-loop-i : goal.invariant-loop-i
 invariant-loop-i l = Backing l.n l.at l.contexts l.initial.out l.out l.len l.i
-
-abbrev pub decreases-loop-i : goal.decreases-loop-i
-decreases-loop-i l = l.n - l.i

@@ -18,4 +18,4 @@ returns c =
     let long = p.words_len.0 in
     let l : length (mid_of 0 (n * k - 0) c.args.words.now) ≡ n * k = simp length-take (omega arith) in
     let drawn = c.begin_contexts in
-    begun-is _ _ _ _ c.args.words.now p.words_len.0 a b refl (nodes_are _ _ _ _ _ _ filled.ensures (filled.auto.nodes ∙ l) (filled.auto.dists ∙ p.words_len.1)) (distances_are _ _ _ _ _ _ filled.ensures (filled.auto.nodes ∙ l) (filled.auto.dists ∙ p.words_len.1)) drawn.ensures drawn.auto.words c.zero_words.ensures
+    begun-is _ _ _ _ c.args.words.now p.words_len.0 a b refl (nodes_are _ _ _ _ _ _ filled.ensures (filled.auto.nodes ∙ l) (filled.auto.dists ∙ p.words_len.1)) (distances_are _ _ _ _ _ _ filled.ensures (filled.auto.nodes ∙ l) (filled.auto.dists ∙ p.words_len.1)) drawn.ensures drawn.auto.words (c.fill.ensures.after (λ y e. e))

@@ -1,10 +1,6 @@
 -- `begins::draw_members` meets its contract: the draws so far stand behind the length. Assumes nothing.
-use Prim.Native.Nat.{◌-◌}
 use Rattle.begins.proofs.Laws.{Drawing}
 use Rattle.begins.proofs.draw_members.Given as goal
 
 abbrev pub invariant-loop-j : goal.invariant-loop-j
 invariant-loop-j l = Drawing l.draws l.n l.s l.at l.words l.j
-
-abbrev pub decreases-loop-j : goal.decreases-loop-j
-decreases-loop-j l = l.s - l.j

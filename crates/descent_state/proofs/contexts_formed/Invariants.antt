@@ -1,10 +1,6 @@
 -- `descent_state::contexts_formed` meets its contract: the lists so far are well formed. Assumes nothing.
-use Prim.Native.Nat.{◌-◌}
 use Rattle.descent_state.proofs.Contexts.{Forming}
 use Rattle.descent_state.proofs.contexts_formed.Given as goal
 
 abbrev pub invariant-loop-i : goal.invariant-loop-i
 invariant-loop-i l = Forming l.n l.count l.words l.i
-
-abbrev pub decreases-loop-i : goal.decreases-loop-i
-decreases-loop-i l = l.count - l.i

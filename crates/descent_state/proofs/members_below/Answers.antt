@@ -1,20 +1,14 @@
--- What the search leaves of `descent_state::members_below`.
-use Prim.Native.Nat.{◌+◌}
-use native.Mathlib.Omega.{arith}
-use Rattle.descent_state.proofs.Members.{checked_none, checked_turn, checked_not, checked_end}
+-- `descent_state::members_below` meets its contract. Assumes nothing.
+use mathlib.Core.Path.{sym, ◌∙◌}
+use Prim.Native.Nat.{ℕ}
+use lib.Dec.{ltb}
+use Rattle.std.proofs.lemmas.Iterator.{YieldsList-from_slice}
+use Rattle.std.proofs.lemmas.Iterator.Search.{all_from_yields_List}
+use Rattle.descent_state.proofs.Members.{formed-all}
+use borrow.Author.Rules.{rules}
 use Rattle.descent_state.proofs.members_below.Goals as goal
 
-pub loop-i-init : goal.loop-i-init
-loop-i-init c = checked_none
-
-pub overflow_cast-words : goal.overflow_cast-words
-overflow_cast-words c = omega (arith, c.type_inv.words (c.loop-i.i + 1))
-
-pub returns-then-n-words : goal.returns-then-n-words
-returns-then-n-words c = checked_not c.loop-i.invariant c.requires c.loop-i-test.true c.if-n-words.true
-
-pub loop-i-preserved : goal.loop-i-preserved
-loop-i-preserved c = checked_turn c.loop-i.invariant c.requires c.loop-i-test.true c.if-n-words.false
-
 pub returns : goal.returns
-returns c = checked_end c.loop-i.invariant c.requires c.loop-i-test.false
+returns c =
+    all_from_yields_List (λ (v : ℕ). ltb v c.args.n) _ _ _ c.all.ensures.ran (YieldsList-from_slice c.args.members.now cc) (λ x b q k. search rules)
+    ∙ sym (formed-all c.args.n c.args.members.now)

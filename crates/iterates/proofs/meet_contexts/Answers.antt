@@ -9,18 +9,14 @@ pub meet_all-requires : goal.meet_all-requires
 meet_all-requires c =
     let p = c.requires in
     let a = c.args in
-    let copy = c.copy_words in
-    let e : a.n * a.k + 260 * a.n - a.n * a.k ≡ 260 * a.n = omega arith in
-    let kept = copy.auto.dst in
+    let e : a.counters.n * a.k + 260 * a.counters.n - a.counters.n * a.k ≡ 260 * a.counters.n = omega arith in
     let room = p.2 in
-    (p.0, walkable_copy p.0 p.1 _ room e copy.ensures (omega arith))
+    (p.0, walkable_copy p.0 p.1 _ room e c.copy_from_slice.ensures.after)
 
 pub returns : goal.returns
 returns c =
     let p = c.requires in
     let a = c.args in
-    let copy = c.copy_words in
-    let e : a.n * a.k + 260 * a.n - a.n * a.k ≡ 260 * a.n = omega arith in
-    let kept = copy.auto.dst in
+    let e : a.counters.n * a.k + 260 * a.counters.n - a.counters.n * a.k ≡ 260 * a.counters.n = omega arith in
     let room = p.2 in
-    met_in p.0 p.1 _ room e copy.ensures _ (omega arith) kept c.meet_all.ensures
+    met_in p.0 p.1 _ room e c.copy_from_slice.ensures.after _ c.meet_all.ensures

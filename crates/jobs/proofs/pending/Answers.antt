@@ -1,10 +1,12 @@
 -- `jobs::pending` meets its contract: both halves. Assumes nothing.
+use mathlib.Core.Path.{◌≡◌}
 use native.Mathlib.Omega.{arith}
+use Rattle.rules.specs.Relay.{bit}
 use Rattle.jobs.proofs.Laws.{pending_both}
 use Rattle.jobs.proofs.pending.Goals as goal
 
-pub overflow_cast-steps : goal.overflow_cast-steps
-overflow_cast-steps c = omega (arith, c.type_inv.words 2)
-
 pub returns : goal.returns
-returns c = pending_both _ _ _ c.second.ensures c.pending_half-first.ensures c.pending_half-later.ensures
+returns c =
+    let first : c.from.result ≡ bit c.pends-first.result = grind arith in
+    let later : c.from-2.result ≡ bit c.pends-later.result = grind arith in
+    rw (first, later) (pending_both _ _ _ c.saturating_sub.ensures c.pends-first.ensures c.pends-later.ensures)

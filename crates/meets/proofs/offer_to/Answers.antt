@@ -2,26 +2,8 @@
 use mathlib.Core.Path.{◌≡◌}
 use Prim.Native.Nat.{◌+◌, ◌-◌, ◌*◌}
 use native.Mathlib.Omega.{arith}
-use Rattle.meets.proofs.Laws.{where_is, offered_in}
+use Rattle.meets.proofs.Laws.{offered_in}
 use Rattle.meets.proofs.offer_to.Goals as goal
-
-pub overflow_mul-from : goal.overflow_mul-from
-overflow_mul-from c = let at = where_is _ _ _ c.requires.0 c.requires.1 c.requires.3 in let i = at.inside in let m = at.small in omega arith
-
-pub overflow_add-to : goal.overflow_add-to
-overflow_add-to c = let at = where_is _ _ _ c.requires.0 c.requires.1 c.requires.3 in let i = at.inside in let m = at.small in omega arith
-
-pub offset_bounds-nodes-from : goal.offset_bounds-nodes-from
-offset_bounds-nodes-from c = let at = where_is _ _ _ c.requires.0 c.requires.1 c.requires.3 in let i = at.inside in let m = at.small in omega arith
-
-pub slice_bounds-offer-end : goal.slice_bounds-offer-end
-slice_bounds-offer-end c = let at = where_is _ _ _ c.requires.0 c.requires.1 c.requires.3 in let i = at.inside in let m = at.small in omega arith
-
-pub offset_bounds-dists-from : goal.offset_bounds-dists-from
-offset_bounds-dists-from c = let at = where_is _ _ _ c.requires.0 c.requires.1 c.requires.3 in let i = at.inside in let m = at.small in omega arith
-
-pub slice_bounds-offer-end-2 : goal.slice_bounds-offer-end-2
-slice_bounds-offer-end-2 c = let at = where_is _ _ _ c.requires.0 c.requires.1 c.requires.3 in let i = at.inside in let m = at.small in omega arith
 
 pub returns : goal.returns
 returns c =

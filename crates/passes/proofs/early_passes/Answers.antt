@@ -8,14 +8,6 @@ use Rattle.passes.proofs.early_passes.Goals as goal
 pub pass-a-requires : goal.pass-a-requires
 pass-a-requires c = let p = c.requires in let low = p.4 in (p.0, p.1, p.1, within-behind false _, omega arith)
 
-pub cross-b-requires : goal.cross-b-requires
-cross-b-requires c =
-    let p = c.requires in
-    let d = c.pass-a.ensures in
-    let most = d.most in
-    let low = p.4 in
-    (game-kept p.0 d.words_long d.floats_long, p.1, p.2, omega arith)
-
 pub pass-requires : goal.pass-requires
 pass-requires c =
     let p = c.requires in

@@ -1,8 +1,7 @@
 -- `relay_close::judge` meets its contract: each row in turn. Assumes nothing.
-use mathlib.Core.Path.{sym, ◌∙◌}
+use mathlib.Core.Path.{refl, sym, ◌∙◌}
 use Prim.Native.Nat.{ℕ}
 use native.Mathlib.Omega.{arith}
-use borrow.Author.Tests.{not-true, not-false}
 use lib.Dec.{T}
 use lib.Ieee.{Float, nan, binary32, fits}
 use Rattle.rules.specs.Refusals.{decision_of, code_of}
@@ -52,7 +51,7 @@ pub returns-then-not-relay_formed : goal.returns-then-not-relay_formed
 unfolding decision_of code_of
 returns-then-not-relay_formed c =
     let a = c.args in
-    by_state a.n a.k a.words.now a.floats.now a.nodes.now a.distances.now a.reports.now (sym c.outside.ensures ∙ c.if-outside.false) (sym c.outside-2.ensures ∙ c.if-outside-2.false) (sym c.wrong_buffers.ensures ∙ c.if-wrong_buffers.false) (sym c.relay_formed.ensures ∙ not-true _ c.if-not-relay_formed.true-raw)
+    by_state a.n a.k a.words.now a.floats.now a.nodes.now a.distances.now a.reports.now (sym c.outside.ensures ∙ c.if-outside.false) (sym c.outside-2.ensures ∙ c.if-outside-2.false) (sym c.wrong_buffers.ensures ∙ c.if-wrong_buffers.false) (sym c.relay_formed.ensures ∙ c.if-not-relay_formed.true)
 
 pub overflow_add-count : goal.overflow_add-count
 overflow_add-count c = let s = sizes (fits-at (goal.at.overflow_add-count c).Else-wrong_buffers) in omega arith
@@ -69,22 +68,20 @@ offset_bounds-words-n c = let s = sizes (fits-at (goal.at.offset_bounds-words-n 
 pub bounds-words-n : goal.bounds-words-n
 bounds-words-n c = let s = sizes (fits-at (goal.at.bounds-words-n c).Else-wrong_buffers) in let all = s.all_words in omega arith
 
-pub overflow_cast-count : goal.overflow_cast-count
-overflow_cast-count c = let few = few-jobs (fits-at (goal.at.overflow_cast-count c).Else-wrong_buffers) (values (goal.at.overflow_cast-count c).After-shared_slice_known-2-1) (sym c.relay_formed.ensures ∙ not-false _ c.if-not-relay_formed.false-raw) 0 in omega arith
+pub lowest_unfinished-requires : goal.lowest_unfinished-requires
+lowest_unfinished-requires c =
+    let z = fits-at (goal.at.lowest_unfinished-requires c).Else-wrong_buffers in
+    (z.nodes, z.few, z.words, few-jobs z (values (goal.at.lowest_unfinished-requires c).After-shared_slice_known-2-1) (sym c.relay_formed.ensures ∙ c.if-not-relay_formed.false) 0)
 
-pub lowest_unfinished-at-requires : goal.lowest_unfinished-at-requires
-lowest_unfinished-at-requires c =
-    let z = fits-at (goal.at.lowest_unfinished-at-requires c).Else-wrong_buffers in
-    (z.nodes, z.few, z.words, few-jobs z (values (goal.at.lowest_unfinished-at-requires c).After-shared_slice_known-2-1) (sym c.relay_formed.ensures ∙ not-false _ c.if-not-relay_formed.false-raw) 0)
-
-pub returns-then-at-count : goal.returns-then-at-count
+pub returns-in-Some : goal.returns-in-Some
 unfolding decision_of code_of
-returns-then-at-count c =
+returns-in-Some c =
     let a = c.args in
-    by_step a.n a.k a.words.now a.floats.now a.nodes.now a.distances.now a.reports.now (sym c.outside.ensures ∙ c.if-outside.false) (sym c.outside-2.ensures ∙ c.if-outside-2.false) (sym c.wrong_buffers.ensures ∙ c.if-wrong_buffers.false) (values (goal.at.returns-then-at-count c).After-shared_slice_known-2-1) (sym c.relay_formed.ensures ∙ not-false _ c.if-not-relay_formed.false-raw) _ c.lowest_unfinished-at.ensures c.if-at-count.true
+    let found = c.in-Some.ensures in
+    by_step a.n a.k a.words.now a.floats.now a.nodes.now a.distances.now a.reports.now (sym c.outside.ensures ∙ c.if-outside.false) (sym c.outside-2.ensures ∙ c.if-outside-2.false) (sym c.wrong_buffers.ensures ∙ c.if-wrong_buffers.false) (values (goal.at.returns-in-Some c).After-shared_slice_known-2-1) (sym c.relay_formed.ensures ∙ c.if-not-relay_formed.false) _ found.1 (omega arith)
 
 pub returns : goal.returns
 unfolding decision_of code_of
 returns c =
     let a = c.args in
-    by_none a.n a.k a.words.now a.floats.now a.nodes.now a.distances.now a.reports.now (sym c.outside.ensures ∙ c.if-outside.false) (sym c.outside-2.ensures ∙ c.if-outside-2.false) (sym c.wrong_buffers.ensures ∙ c.if-wrong_buffers.false) (values (goal.at.returns c).After-shared_slice_known-2-1) (sym c.relay_formed.ensures ∙ not-false _ c.if-not-relay_formed.false-raw) _ c.lowest_unfinished-at.ensures c.if-at-count.false
+    by_none a.n a.k a.words.now a.floats.now a.nodes.now a.distances.now a.reports.now (sym c.outside.ensures ∙ c.if-outside.false) (sym c.outside-2.ensures ∙ c.if-outside-2.false) (sym c.wrong_buffers.ensures ∙ c.if-wrong_buffers.false) (values (goal.at.returns c).After-shared_slice_known-2-1) (sym c.relay_formed.ensures ∙ c.if-not-relay_formed.false) _ refl (omega (arith, c.in_default.ensures))

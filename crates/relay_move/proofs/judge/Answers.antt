@@ -1,7 +1,6 @@
 -- `relay_move::judge` meets its contract: each row in turn. Assumes nothing.
 use mathlib.Core.Path.{sym, ◌∙◌}
 use Prim.Native.Nat.{ℕ}
-use borrow.Author.Tests.{not-true, not-false}
 use lib.Dec.{T}
 use lib.Ieee.{Float, nan, binary32, fits}
 use Rattle.rules.specs.Refusals.{decision_of, code_of}
@@ -36,17 +35,17 @@ relay_formed-requires c = sized _ _ c.args.job _ _ (sym c.outside.ensures ∙ c.
 
 pub returns-then-not-relay_formed : goal.returns-then-not-relay_formed
 unfolding decision_of code_of
-returns-then-not-relay_formed c = by_state _ _ _ _ _ (sym c.outside.ensures ∙ c.if-outside.false) (sym c.outside-2.ensures ∙ c.if-outside-2.false) (sym c.wrong_state.ensures ∙ c.if-wrong_state.false) (sym c.relay_formed.ensures ∙ not-true _ c.if-not-relay_formed.true-raw)
+returns-then-not-relay_formed c = by_state _ _ _ _ _ (sym c.outside.ensures ∙ c.if-outside.false) (sym c.outside-2.ensures ∙ c.if-outside-2.false) (sym c.wrong_state.ensures ∙ c.if-wrong_state.false) (sym c.relay_formed.ensures ∙ c.if-not-relay_formed.true)
 
 pub no_step-requires : goal.no_step-requires
 no_step-requires c =
     let z = sized _ _ c.args.job _ _ (sym c.outside.ensures ∙ c.if-outside.false) (sym c.outside-2.ensures ∙ c.if-outside-2.false) (sym c.wrong_state.ensures ∙ c.if-wrong_state.false) in
-    (z.nodes, z.few, z.words, few-jobs z (values (goal.at.no_step-requires c).After-shared_slice_known-2-1) (sym c.relay_formed.ensures ∙ not-false _ c.if-not-relay_formed.false-raw) c.args.job)
+    (z.nodes, z.few, z.words, few-jobs z (values (goal.at.no_step-requires c).After-shared_slice_known-2-1) (sym c.relay_formed.ensures ∙ c.if-not-relay_formed.false) c.args.job)
 
 pub returns-then-no_step : goal.returns-then-no_step
 unfolding decision_of code_of
-returns-then-no_step c = by_step _ _ _ _ _ (sym c.outside.ensures ∙ c.if-outside.false) (sym c.outside-2.ensures ∙ c.if-outside-2.false) (sym c.wrong_state.ensures ∙ c.if-wrong_state.false) (values (goal.at.returns-then-no_step c).After-shared_slice_known-2-1) (sym c.relay_formed.ensures ∙ not-false _ c.if-not-relay_formed.false-raw) (sym c.no_step.ensures ∙ c.if-no_step.true)
+returns-then-no_step c = by_step _ _ _ _ _ (sym c.outside.ensures ∙ c.if-outside.false) (sym c.outside-2.ensures ∙ c.if-outside-2.false) (sym c.wrong_state.ensures ∙ c.if-wrong_state.false) (values (goal.at.returns-then-no_step c).After-shared_slice_known-2-1) (sym c.relay_formed.ensures ∙ c.if-not-relay_formed.false) (sym c.no_step.ensures ∙ c.if-no_step.true)
 
 pub returns : goal.returns
 unfolding decision_of code_of
-returns c = by_none _ _ _ _ _ (sym c.outside.ensures ∙ c.if-outside.false) (sym c.outside-2.ensures ∙ c.if-outside-2.false) (sym c.wrong_state.ensures ∙ c.if-wrong_state.false) (values (goal.at.returns c).After-shared_slice_known-2-1) (sym c.relay_formed.ensures ∙ not-false _ c.if-not-relay_formed.false-raw) (sym c.no_step.ensures ∙ c.if-no_step.false)
+returns c = by_none _ _ _ _ _ (sym c.outside.ensures ∙ c.if-outside.false) (sym c.outside-2.ensures ∙ c.if-outside-2.false) (sym c.wrong_state.ensures ∙ c.if-wrong_state.false) (values (goal.at.returns c).After-shared_slice_known-2-1) (sym c.relay_formed.ensures ∙ c.if-not-relay_formed.false) (sym c.no_step.ensures ∙ c.if-no_step.false)

@@ -11,11 +11,11 @@ keep-requires c =
     let a = c.args in
     let at = job_place a.n a.k a.job in
     let m : at + 15 - at ≡ 15 = omega arith in
-    keep-ready c.requires _ c.list_step.ensures _ m
+    keep-ready c.requires _ c.list_step-next.ensures.listed _ m
 
 pub returns : goal.returns
 returns c =
     let a = c.args in
     let at = job_place a.n a.k a.job in
     let m : at + 15 - at ≡ 15 = omega arith in
-    half_moved c.requires _ c.list_step.ensures _ m c.flags_of-flags.ensures c.keep.ensures
+    half_moved c.requires _ c.list_step-next.ensures.listed _ m c.list_step-next.ensures.flags c.keep.ensures

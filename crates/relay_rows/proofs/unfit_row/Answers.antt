@@ -32,7 +32,7 @@ pub bounds-jobs-i-in-loop-i : goal.bounds-jobs-i-in-loop-i
 bounds-jobs-i-in-loop-i c = let t = c.loop-i-test.true in let all = c.loop-i.invariant.all in omega arith
 
 pub unfit_job-requires : goal.unfit_job-requires
-unfit_job-requires c = let p = c.requires in let all = c.loop-i.invariant.all in let t = c.loop-i-test.true in let h : c.loop-i.i < job_count c.args.jobs.now = omega arith in (p.0, p.1.us _ h, p.1.vs _ h)
+unfit_job-requires c = let p = c.requires in let all = c.loop-i.invariant.all in let t = c.loop-i-test.true in let h : c.loop-i.i < job_count c.args.jobs.now = omega arith in (p.us _ h, p.vs _ h)
 
 pub returns-then-unfit_job : goal.returns-then-unfit_job
 unfolding decision_of code_of

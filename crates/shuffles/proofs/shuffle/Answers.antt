@@ -1,23 +1,25 @@
 -- What the search leaves of `shuffles::shuffle`.
-use lib.ListN.{length-set}
+use mathlib.Core.Path.{◌≡◌, sym, ap, ◌∙◌}
+use Prim.Native.Nat.{ℕ, ◌+◌, ◌-◌}
 use native.Mathlib.Omega.{arith}
+use Rattle.std.proofs.lemmas.List.Edits.{swap_is}
+use Rattle.rules.specs.Descent.{drawn}
 use Rattle.shuffles.proofs.Laws.{shuffling_none, shuffling_turn, shuffling_end}
 use borrow.Author.Rules.{rules}
 use Rattle.shuffles.proofs.shuffle.Goals as goal
 
-pub loop-count-init : goal.loop-count-init
-loop-count-init c = shuffling_none _ _ _ (search rules)
+pub loop-p-init : goal.loop-p-init
+loop-p-init c = shuffling_none _ _ _ (search rules)
 
-pub bounds-xs-q-in-loop-count : goal.bounds-xs-q-in-loop-count
-bounds-xs-q-in-loop-count c =
-    let long = c.loop-count.invariant.long in
-    let inside = c.loop-count.invariant.within in
+pub loop-p-preserved : goal.loop-p-preserved
+loop-p-preserved c =
+    let long = c.loop-p.invariant.long in
+    let inside = c.loop-p.invariant.within in
     let small = c.drawn-q.ensures.1 in
-    simp length-set (omega arith)
-
-pub loop-count-preserved : goal.loop-count-preserved
-loop-count-preserved c =
-    shuffling_turn c.loop-count.invariant c.loop-count-test.true c.drawn-q.ensures.0
+    let e : c.loop-p.p - 1 + 1 ≡ c.loop-p.p = omega arith in
+    let q = c.drawn-q.ensures.0 ∙ ap (λ (n : ℕ). drawn c.args.draws.now n c.loop-p.next) e in
+    rw (c.swap.ensures.after, sym (swap_is c.loop-p.xs (c.loop-p.p - 1) c.drawn-q.result 0 (omega arith) (omega arith)))
+    (shuffling_turn c.loop-p.invariant c.loop-p-test.true q)
 
 pub returns : goal.returns
-returns c = shuffling_end c.loop-count.invariant (search rules)
+returns c = shuffling_end c.loop-p.invariant (search rules)

@@ -1,11 +1,7 @@
 -- `unvisits::unvisit_all` meets its contract. Assumes nothing.
-use Prim.Native.Nat.{◌-◌, ◌≤◌}
 use Rattle.visits.specs.Marks.{Marked}
 use Rattle.unvisits.specs.Unvisits.{unvisit_each}
 use Rattle.unvisits.proofs.unvisit_all.Given as goal
 
 abbrev pub invariant-loop-i : goal.invariant-loop-i
-invariant-loop-i l = (l.i ≤ l.n) × Marked l.base l.n (unvisit_each l.n l.contexts l.i) l.initial.words l.words
-
-abbrev pub decreases-loop-i : goal.decreases-loop-i
-decreases-loop-i l = l.n - l.i
+invariant-loop-i l = Marked l.base l.n (unvisit_each l.n l.contexts l.i) l.initial.words l.words
