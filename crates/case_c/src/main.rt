@@ -5,7 +5,6 @@ ghost use Rattle.std.specs.Prelude.{◌≡◌};
 ghost use Rattle.case_c.specs.Square.{lanes_of_squares, params_of_squares};
 
 use params::SsgParams;
-use rules::Answer;
 use std::io;
 
 // What is taught is said by contracts: four counters are too few for the graph to tell every number of it.
@@ -40,7 +39,7 @@ fn square(rt: &impl Print, name: &[u8], index_size: usize, graph: &mut [u32]) ->
     let mut scratch_f: [f32; 4176] = [0.0; 4176];
     let params = params_of(index_size);
     let answer = build::build(params, 1, 4, &lanes, graph, &mut scratch_u, &mut scratch_f);
-    let Answer::Done = answer else {
+    let Ok(()) = answer else {
         return Ok(());
     };
     say(rt, name, index_size, graph)

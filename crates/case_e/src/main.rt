@@ -4,7 +4,6 @@
 ghost use Rattle.std.specs.Prelude.{◌≡◌};
 ghost use Rattle.case_e.specs.Square.{lanes_of_squares, graph_of_c, roots_of_e, query_of_e};
 
-use rules::SearchAnswer;
 use std::io;
 
 // What is searched is said by contracts: the two nodes that are found do not tell every number of it.
@@ -32,10 +31,6 @@ fn query() -> [f32; 1]
     [7.0]
 }
 
-fn line(rt: &impl Print, rank: u64, node: u32, bits: u32) -> io::Result<()> {
-    println!(rt; "{rank},{node},{bits}")
-}
-
 fn main(rt: HostRuntime) -> io::Result<()> {
     let lanes = lanes();
     let graph = graph();
@@ -59,10 +54,14 @@ fn main(rt: HostRuntime) -> io::Result<()> {
         &mut scratch_u,
         &mut scratch_f,
     );
-    let SearchAnswer::Found { m: _, takings: _ } = a else {
+    let Ok(_) = a else {
         return Ok(());
     };
     println!(rt; "rank,node,bits")?;
-    line(&rt, 1, nodes[0], bits[0])?;
-    line(&rt, 2, nodes[1], bits[1])
+    for (i, node) in nodes.iter().enumerate() {
+        let rank = i + 1;
+        let bits = bits[i];
+        println!(rt; "{rank},{node},{bits}")?;
+    }
+    Ok(())
 }

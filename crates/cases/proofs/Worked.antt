@@ -1,12 +1,12 @@
 -- Small texts, worked by computation. Assumes nothing.
-use Rattle.std.proofs.Common.{◌≡◌, [], ◌∷◌, refl}
+use Rattle.std.proofs.Common.{◌≡◌, [], ◌∷◌, refl, None}
 use Rattle.cases.specs.declared.Token.TheVariants.{End, TooLarge, Strange}
 use Rattle.cases.specs.Text.{within, separates, after, skipped, digit_of, digits_of, counted, ended, token_of, token_from, token_at, preceded, continued, numbers_from, numbers_in}
 
 -- "roots 12 0 # 7", a line end and "3": labels and comments are passed, and 12, 0 and 3 are counted and summed.
 passed :
     numbers_in (114 ∷ 111 ∷ 111 ∷ 116 ∷ 115 ∷ 32 ∷ 49 ∷ 50 ∷ 32 ∷ 48 ∷ 32 ∷ 35 ∷ 32 ∷ 55 ∷ 10 ∷ 51 ∷ [])
-    ≡ record { numbers = 12 ∷ 0 ∷ 3 ∷ []; end = End (record { at = 16; count = 3; sum = 15; fault = 0 }) }
+    ≡ record { numbers = 12 ∷ 0 ∷ 3 ∷ []; end = End (record { at = 16; count = 3; sum = 15; fault = None }) }
 unfolding within separates after skipped digit_of digits_of counted ended token_of token_from token_at preceded continued numbers_from numbers_in
 passed = refl
 

@@ -1,17 +1,31 @@
 // The reader of the oracle's lists: text as a sequence of numbers, by the format of oracle/README.md.
 #![tactic(auto)]
 
-ghost use Rattle.std.specs.Prelude.{◌≡◌, ◌≤◌, min, length, drop};
-ghost use Rattle.cases.specs.Text.{within, separates, after, skipped, digit_of, digits_of, token_at, faulted, word_at, size_at, area_of, words_at, float_of, floats_at, behind, first};
+ghost use Rattle.std.specs.Prelude.{◌≡◌, ℕ, ◌≤◌, ◌<◌, length, drop, map, IfSome};
+ghost use Rattle.cases.specs.declared.Mode.TheVariants.{Between};
+ghost use Rattle.cases.specs.Text.{fault_number, separates, after, skipped, digit_of, digits_of, token_at, faulted, word_at, size_at, area_of, words_at, float_of, floats_at, behind, first, Gives};
+
+/// What can go wrong in the reading of a list.
+#[derive(Clone, Copy, PartialEq, Eq)]
+pub enum Fault {
+    /// The text ended where a number was asked for.
+    Ended,
+    /// A number was 2^32 or more.
+    TooLarge,
+    /// A byte belongs to no list.
+    Strange,
+    /// A number was one that the format does not allow there.
+    Unexpected,
+}
 
 /// A place in a list, the numbers read up to it with their sum modulo 2^32, and what went wrong
-/// first (`FINE` where nothing did).
+/// first.
 #[derive(Clone, Copy)]
 pub struct Cursor {
     pub at: usize,
     pub count: u32,
     pub sum: u32,
-    pub fault: u32,
+    pub fault: Option<Fault>,
 }
 
 /// The value of some digits, and the place behind them.
@@ -21,17 +35,10 @@ pub struct Digits {
     pub at: usize,
 }
 
-/// A number of a list, and the place behind it.
+/// What was read of a list, and the place behind it.
 #[derive(Clone, Copy)]
-pub struct Word {
-    pub value: u32,
-    pub cursor: Cursor,
-}
-
-/// A length of a list, and the place behind it.
-#[derive(Clone, Copy)]
-pub struct Size {
-    pub value: usize,
+pub struct Read<T> {
+    pub value: T,
     pub cursor: Cursor,
 }
 
@@ -45,82 +52,55 @@ pub enum Token {
     Strange(usize),
 }
 
-fn within(low: u8, high: u8, b: u8) -> bool
-    ensures { result ≡ within low high b }
-{
-    if b < low {
-        return false;
-    }
-    b <= high
-}
-
 // Whether a byte is of a label or white space.
+#[tactic(auto, unfolding(crate::specs::Text::separates, crate::specs::Text::within))]
 fn separates(b: u8) -> bool
     ensures { result ≡ separates b }
 {
-    if within(b'a', b'z', b) {
-        return true;
-    }
-    if within(b'A', b'Z', b) {
-        return true;
-    }
-    if b == b'_' {
-        return true;
-    }
-    if b == b'-' {
-        return true;
-    }
-    if b == b' ' {
-        return true;
-    }
-    within(9, 13, b)
+    matches!(b, b'a'..=b'z' | b'A'..=b'Z' | b'_' | b'-' | b' ' | b'\t'..=b'\r')
 }
 
-// Between numbers 0, in a comment 1, and 2 at a byte that is neither a separator nor in a comment.
-fn after(mode: u8, b: u8) -> u8
+// Where a text stands between two numbers.
+#[derive(Clone, Copy)]
+enum Mode {
+    Between,
+    Comment,
+}
+
+// Where the text stands behind the byte, which is between no numbers where it is neither a separator nor in a comment.
+#[tactic(auto, unfolding(crate::specs::Text::after))]
+fn after(mode: Mode, b: u8) -> Option<Mode>
     ensures { result ≡ after mode b }
 {
-    if mode == 1 {
-        if b == b'\n' {
-            return 0;
-        }
-        return 1;
+    match mode {
+        Mode::Comment if b == b'\n' => Some(Mode::Between),
+        Mode::Comment => Some(Mode::Comment),
+        Mode::Between if b == b'#' => Some(Mode::Comment),
+        Mode::Between => separates(b).then_some(Mode::Between),
     }
-    if b == b'#' {
-        return 1;
-    }
-    if separates(b) {
-        return 0;
-    }
-    2
 }
 
 // The place of the first byte from `start` on that is neither a separator nor in a comment.
 fn skip(text: &[u8], start: usize) -> usize
-    ensures { result ≡ skipped 0 (drop start text.now) start }
+    ensures { result ≡ skipped Between (drop start text.now) start }
 {
-    let mut at = start;
-    let mut mode: u8 = 0;
-    while at < text.len() {
-        let next = after(mode, text[at]);
-        if next == 2 {
-            return at;
+    let mut mode = Mode::Between;
+    for at in start..text.len() {
+        match after(mode, text[at]) {
+            Some(next) => mode = next,
+            None => return at,
         }
-        mode = next;
-        at += 1;
     }
-    at
+    start.max(text.len())
 }
 
-// The digit that a byte is, and 10 where it is none.
-fn digit_of(b: u8) -> u64
+// The digit that a byte is.
+#[tactic(auto, unfolding(crate::specs::Text::digit_of, crate::specs::Text::within))]
+fn digit_of(b: u8) -> Option<u64>
     ensures value { result ≡ digit_of b }
-    ensures upper_bound { result ≤ 10 }
+    ensures upper_bound { IfSome result (λ d. d < 10) }
 {
-    if within(b'0', b'9', b) {
-        return (b - b'0') as u64;
-    }
-    10
+    b.is_ascii_digit().then(|| u64::from(b - b'0'))
 }
 
 // The value of the digits from `start` on; one that has reached 2^32 is read no further.
@@ -128,43 +108,29 @@ fn read_digits(text: &[u8], start: usize) -> Digits
     ensures { result ≡ digits_of 0 (drop start text.now) start }
 {
     let mut value: u64 = 0;
-    let mut at = start;
-    while at < text.len() {
-        let digit = digit_of(text[at]);
-        if digit == 10 {
-            return Digits {
-                value: value,
-                at: at,
-            };
-        }
+    for at in start..text.len() {
+        let Some(digit) = digit_of(text[at]) else {
+            return Digits { value, at };
+        };
         if value >= 0x1_0000_0000 {
-            return Digits {
-                value: value,
-                at: at,
-            };
+            return Digits { value, at };
         }
         value = value * 10 + digit;
-        at += 1;
     }
     Digits {
-        value: value,
-        at: at,
+        value,
+        at: start.max(text.len()),
     }
 }
 
 /// What stands next in the text of a list. A number read is counted, and added to the sum.
+#[tactic(auto, unfolding(crate::specs::Text::token_at, crate::specs::Text::token_from, crate::specs::Text::token_of, crate::specs::Text::counted, crate::specs::Text::ended))]
 pub fn next_number(text: &[u8], c: Cursor) -> Token
     ensures { result ≡ token_at text.now c }
 {
-    let from = c.at;
-    let start = skip(text, from);
+    let start = skip(text, c.at);
     if text.len() <= start {
-        return Token::End(Cursor {
-            at: start,
-            count: c.count,
-            sum: c.sum,
-            fault: c.fault,
-        });
+        return Token::End(Cursor { at: start, ..c });
     }
     let d = read_digits(text, start);
     if d.at == start {
@@ -178,23 +144,26 @@ pub fn next_number(text: &[u8], c: Cursor) -> Token
         number,
         Cursor {
             at: d.at,
-            count: std::num::wrapping_add_u32(c.count, 1),
-            sum: std::num::wrapping_add_u32(c.sum, number),
+            count: c.count.wrapping_add(1),
+            sum: c.sum.wrapping_add(number),
             fault: c.fault,
         },
     )
 }
 
-/// Nothing went wrong.
-pub const FINE: u32 = 0;
-/// The text ended where a number was asked for.
-pub const ENDED: u32 = 1;
-/// A number was 2^32 or more.
-pub const TOO_LARGE: u32 = 2;
-/// A byte belongs to no list.
-pub const STRANGE: u32 = 3;
-/// A number was one that the format does not allow there.
-pub const UNEXPECTED: u32 = 4;
+/// The number that is printed for what went wrong, and 0 where nothing did.
+#[tactic(auto, unfolding(crate::specs::Text::fault_number))]
+pub fn fault_number(fault: Option<Fault>) -> u32
+    ensures { result ≡ fault_number fault }
+{
+    match fault {
+        None => 0,
+        Some(Fault::Ended) => 1,
+        Some(Fault::TooLarge) => 2,
+        Some(Fault::Strange) => 3,
+        Some(Fault::Unexpected) => 4,
+    }
+}
 
 /// Room for the text of a list.
 pub fn room() -> [u8; 524288]
@@ -211,66 +180,47 @@ pub fn start() -> Cursor
         at: 0,
         count: 0,
         sum: 0,
-        fault: FINE,
+        fault: None,
     }
 }
 
 /// The cursor with a fault, where it has none yet.
-pub fn faulted(c: Cursor, fault: u32) -> Cursor
+#[tactic(auto, unfolding(crate::specs::Text::faulted))]
+pub fn faulted(c: Cursor, fault: Fault) -> Cursor
     ensures { result ≡ faulted c fault }
 {
-    if c.fault == 0 {
-        return Cursor {
-            at: c.at,
-            count: c.count,
-            sum: c.sum,
-            fault: fault,
-        };
+    Cursor {
+        fault: c.fault.or(Some(fault)),
+        ..c
     }
-    c
 }
 
 /// The next number; 0 where there is none or something went wrong before, which the cursor says.
-pub fn read_word(text: &[u8], c: Cursor) -> Word
+#[tactic(auto, unfolding(crate::specs::Text::word_at, crate::specs::Text::word_of))]
+pub fn read_word(text: &[u8], c: Cursor) -> Read<u32>
     ensures { result ≡ word_at text.now c }
 {
-    if c.fault == 0 {
-        let t = next_number(text, c);
-        match t {
-            Token::Number(x, next) => {
-                return Word {
-                    value: x,
-                    cursor: next,
-                };
-            }
-            Token::End(_) => {
-                return Word {
-                    value: 0,
-                    cursor: faulted(c, ENDED),
-                };
-            }
-            Token::TooLarge(_) => {
-                return Word {
-                    value: 0,
-                    cursor: faulted(c, TOO_LARGE),
-                };
-            }
-            Token::Strange(_) => {
-                return Word {
-                    value: 0,
-                    cursor: faulted(c, STRANGE),
-                };
-            }
-        }
+    if c.fault.is_some() {
+        return Read {
+            value: 0,
+            cursor: c,
+        };
     }
-    Word {
+    let fault = match next_number(text, c) {
+        Token::Number(value, cursor) => return Read { value, cursor },
+        Token::End(_) => Fault::Ended,
+        Token::TooLarge(_) => Fault::TooLarge,
+        Token::Strange(_) => Fault::Strange,
+    };
+    Read {
         value: 0,
-        cursor: c,
+        cursor: faulted(c, fault),
     }
 }
 
 /// The next number as a length of at most `most`; a larger one is a fault.
-pub fn read_size(text: &[u8], c: Cursor, most: usize) -> Size
+#[tactic(auto, unfolding(crate::specs::Text::size_at, crate::specs::Text::size_of))]
+pub fn read_size(text: &[u8], c: Cursor, most: usize) -> Read<usize>
     ensures value { result ≡ size_at most text.now c }
     ensures value_le_most { result.value ≤ most }
 {
@@ -278,51 +228,52 @@ pub fn read_size(text: &[u8], c: Cursor, most: usize) -> Size
     let value = w.value as usize;
     let cursor = w.cursor;
     if value <= most {
-        return Size {
-            value: value,
-            cursor: cursor,
-        };
+        return Read { value, cursor };
     }
-    Size {
+    Read {
         value: 0,
-        cursor: faulted(cursor, UNEXPECTED),
+        cursor: faulted(cursor, Fault::Unexpected),
     }
 }
 
 /// The product of two lengths, and 0 where one of them is over 65,536.
+#[tactic(auto, unfolding(crate::specs::Text::area_of))]
 pub fn area(a: usize, b: usize) -> usize
     ensures value { result ≡ area_of a b }
     ensures upper_bound { result ≤ 4294967296 }
 {
-    if a > 65536 {
-        return 0;
-    }
-    if b > 65536 {
+    if a > 65536 || b > 65536 {
         return 0;
     }
     a * b
-}
-
-/// The less of two lengths, for a part of a slice.
-pub fn least(a: usize, b: usize) -> usize
-    ensures { result ≡ min a b }
-{
-    if a < b { a } else { b }
 }
 
 /// Passes the next `n` numbers.
 pub fn pass(text: &[u8], c: Cursor, n: usize) -> Cursor
     ensures { result ≡ behind n text.now c }
 {
-    let mut left = n;
     let mut cursor = c;
-    while left > 0 {
-        if cursor.fault != 0 {
+    for _ in 0..n {
+        if cursor.fault.is_some() {
             return cursor;
         }
+        cursor = read_word(text, cursor).cursor;
+    }
+    cursor
+}
+
+/// Fills the slice with what `of` makes of the next numbers.
+pub fn read_all<T: Copy, F: Fn(u32) -> T>(text: &[u8], c: Cursor, out: &mut [T], of: F) -> Cursor
+    requires { F.IsAlwaysCallable of }
+    ensures out_after { (made : ℕ → T) → Gives (F.post of) made
+        → out.new ≡ map made (words_at (length out.old) text.now c) }
+    ensures value { result ≡ behind (length out.old) text.now c }
+{
+    let mut cursor = c;
+    for i in 0..out.len() {
         let w = read_word(text, cursor);
+        out[i] = of(w.value);
         cursor = w.cursor;
-        left -= 1;
     }
     cursor
 }
@@ -332,18 +283,11 @@ pub fn read_words(text: &[u8], c: Cursor, out: &mut [u32]) -> Cursor
     ensures out_after { out.new ≡ words_at (length out.old) text.now c }
     ensures value { result ≡ behind (length out.old) text.now c }
 {
-    let mut i: usize = 0;
-    let mut cursor = c;
-    while i < out.len() {
-        let w = read_word(text, cursor);
-        out[i] = w.value;
-        cursor = w.cursor;
-        i += 1;
-    }
-    cursor
+    read_all(text, c, out, |word| word)
 }
 
 /// The float of some bits, and 0.0 where they are a NaN's.
+#[tactic(auto, unfolding(crate::specs::Text::float_of))]
 pub fn float(bits: u32) -> f32
     ensures { result ≡ float_of bits }
 {
@@ -358,13 +302,5 @@ pub fn read_floats(text: &[u8], c: Cursor, out: &mut [f32]) -> Cursor
     ensures out_after { out.new ≡ floats_at (length out.old) text.now c }
     ensures value { result ≡ behind (length out.old) text.now c }
 {
-    let mut i: usize = 0;
-    let mut cursor = c;
-    while i < out.len() {
-        let w = read_word(text, cursor);
-        out[i] = float(w.value);
-        cursor = w.cursor;
-        i += 1;
-    }
-    cursor
+    read_all(text, c, out, float)
 }

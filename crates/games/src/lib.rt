@@ -1,46 +1,71 @@
 // Reads a game: games/README.md gives the lines of its file.
 #![tactic(auto)]
 
-ghost use Rattle.std.specs.Prelude.{◌≡◌, ◌%◌, slice_index};
-ghost use Rattle.games.specs.Games.{nothing, read_to, put, wholes_put, values_put, ended, name_of, lanes_line, with_params, teach_line, names_line, roots_line, with_point, is_point, read, point_line, setting, line_read, next_line, whole_line, file_read};
+ghost use Rattle.std.specs.Prelude.{◌≡◌, ℕ, List, Result, Some, slice_index};
+ghost use Rattle.lines.specs.declared.Word.{Word};
+ghost use Rattle.games.specs.declared.Fault.{Fault};
+ghost use Rattle.games.specs.Games.{message, nothing, read_to, wrong, put, whole_of, number_of, numbers_put, ended, name_of, lanes_line, with_params, teach_line, names_line, roots_line, read, point_line, with_counter, with_query, keyword_of, line_read, next_line, file_read};
 
+use lines::{Part, Shape, Word};
 use params::SsgParams;
+use std::fmt;
 
-// The first words of lines, as they are spelt: a 1 and their bytes.
-const COUNTER: u64 = 0x0163_6F75_6E74_6572;
+/// What can be wrong with a file.
+#[derive(Clone, Copy, Debug, PartialEq, Eq)]
+pub enum Fault {
+    /// A line starts with a word that is none of the six.
+    Unknown,
+    /// A number is asked for, and here is none.
+    NoNumber,
+    /// A whole number is asked for.
+    NotWhole,
+    /// A line has more words than it should.
+    More,
+    /// The lanes are not named once, before everything that has lanes, or not 1 to 16 of them.
+    Lanes,
+    /// A counter stands behind a query.
+    Late,
+    /// There are more counters, queries or roots than there is room for.
+    Room,
+}
 
-const QUERY: u64 = 0x0171_7565_7279;
+impl fmt::Display for Fault {
+    ghost output = { λ f. Some (message f) };
 
-const NAMED_LANES: u64 = 0x016C_616E_6573;
+    #[tactic(auto, unfolding(crate::specs::Games::message))]
+    fn fmt<W: fmt::Write>(&self, f: &mut fmt::Formatter<W>) -> fmt::Result {
+        f.write_str(match self {
+            Fault::Unknown => "a line starts with lanes, teach, names, roots, counter or query",
+            Fault::NoNumber => {
+                "a number of at most three places behind the point, or nan, should stand"
+            }
+            Fault::NotWhole => "a whole number should stand",
+            Fault::More => "the line should end",
+            Fault::Lanes => "1 to 16 lanes are named once, before everything that has lanes",
+            Fault::Late => "counters stand before queries",
+            Fault::Room => "there is no room for more: 320 counters and queries, 64 roots",
+        })
+    }
+}
 
-const TEACH: u64 = 0x0174_6561_6368;
+/// What is wrong with a file, and the line and the place where it says so.
+#[derive(Clone, Copy, Debug, PartialEq, Eq)]
+pub struct Wrong {
+    pub line: usize,
+    pub place: usize,
+    pub fault: Fault,
+}
 
-const NAMES: u64 = 0x016E_616D_6573;
-
-const ROOTS: u64 = 0x0172_6F6F_7473;
-
-/// Nothing is wrong.
-pub const FINE: u32 = 0;
-// A line starts with a word that is none of the six.
-const UNKNOWN: u32 = 1;
-
-// A number is asked for, and here is none.
-const NO_NUMBER: u32 = 2;
-
-// A whole number is asked for.
-const NOT_WHOLE: u32 = 3;
-
-// A line has more words than it should.
-const MORE: u32 = 4;
-
-// The lanes are not named once, before everything that has lanes, or not 1 to 16 of them.
-const LANES: u32 = 5;
-
-// A counter stands behind a query.
-const LATE: u32 = 6;
-
-// There are more counters, queries or roots than there is room for.
-const ROOM: u32 = 7;
+// The first words of lines.
+#[derive(Clone, Copy, Debug, PartialEq, Eq)]
+enum Keyword {
+    Lanes,
+    Teach,
+    Names,
+    Roots,
+    Counter,
+    Query,
+}
 
 // The places of the whole numbers of a game: 64 roots, the three sizes of `teach`, the number of `names`, and where the names of 320 counters and queries stand.
 const SIZES: usize = 64;
@@ -49,8 +74,7 @@ const K: usize = 67;
 
 const PLACES: usize = 68;
 
-/// A game as its file says: how much of all there is, the parameters, the place of the lanes' names; the line and the place up to which it is read, and what is
-/// wrong there.
+/// A game as its file says: how much of all there is, the parameters, the place of the lanes' names; the line and the place up to which it is read.
 #[derive(Clone, Copy)]
 pub struct Game {
     pub dimension: usize,
@@ -62,311 +86,311 @@ pub struct Game {
     pub title: usize,
     pub line: usize,
     pub place: usize,
-    pub fault: u32,
 }
 
 fn nothing() -> Game
     ensures { result ≡ nothing }
 {
-    let params = SsgParams::default();
     Game {
         dimension: 0,
         n: 0,
         asked: 0,
         roots: 0,
         k: 1,
-        params: params,
+        params: SsgParams::default(),
         title: 0,
         line: 1,
         place: 0,
-        fault: FINE,
     }
 }
 
-// The game read up to a place, where something may be wrong.
-fn read_to(g: Game, place: usize, fault: u32) -> Game
-    ensures { result ≡ read_to g place fault }
+// The game read up to a place.
+fn read_to(g: Game, place: usize) -> Game
+    ensures { result ≡ read_to g place }
 {
-    let mut r = g;
-    r.place = place;
-    r.fault = fault;
-    r
+    Game { place, ..g }
 }
 
-// Reads the next words of a line as whole numbers.
-fn read_wholes(text: &[u8], g: Game, first: usize, end: usize, wholes: &mut [u32]) -> Game
-    ensures { put result wholes.new ≡ wholes_put text.now g first end wholes.old }
+// What is wrong at a place of the line that is read.
+fn wrong_at(g: Game, place: usize, fault: Fault) -> Wrong
+    ensures { result ≡ wrong g place fault }
+{
+    Wrong {
+        line: g.line,
+        place,
+        fault,
+    }
+}
+
+// A number that a word of a line may be.
+trait Number: Copy {
+    ghost number: { List ℕ → Word → Result Self Fault };
+
+    fn number(text: &[u8], w: Word) -> Result<Self, Fault>
+        ensures { result ≡ number text.now w };
+}
+
+impl Number for u32 {
+    ghost number = { λ _ w. whole_of w.shape w.digits };
+
+    #[tactic(auto, unfolding(crate::specs::Games::whole_of))]
+    fn number(_text: &[u8], w: Word) -> Result<u32, Fault> {
+        match w.shape {
+            Shape::Whole => Ok(w.digits),
+            _ => Err(Fault::NotWhole),
+        }
+    }
+}
+
+impl Number for f32 {
+    ghost number = { number_of };
+
+    #[tactic(auto, unfolding(crate::specs::Games::number_of))]
+    fn number(text: &[u8], w: Word) -> Result<f32, Fault> {
+        if lines::is_number(text, w) {
+            Ok(lines::value(text, w))
+        } else {
+            Err(Fault::NoNumber)
+        }
+    }
+}
+
+// Reads the next words of a line as numbers, to the places from `first` up to `end`.
+#[tactic(auto, using(crate::proofs::Laws::numbers))]
+fn read_numbers<T: Number>(
+    text: &[u8],
+    g: Game,
+    first: usize,
+    end: usize,
+    xs: &mut [T],
+) -> Result<Game, Wrong>
+    ensures { put result xs.new ≡ numbers_put (T.number text.now) text.now g first end xs.old }
 {
     let mut at = g.place;
-    let mut i = first;
-    while i < end {
-        if i >= wholes.len() {
-            return read_to(g, at, ROOM);
+    for i in first..end {
+        if i >= xs.len() {
+            return Err(wrong_at(g, at, Fault::Room));
         }
         let w = lines::next_word(text, at);
-        if w.shape != lines::WHOLE {
-            return read_to(g, w.start, NOT_WHOLE);
+        match T::number(text, w) {
+            Ok(x) => xs[i] = x,
+            Err(fault) => return Err(wrong_at(g, w.start, fault)),
         }
-        wholes[i] = w.digits;
         at = w.end;
-        i += 1;
     }
-    read_to(g, at, FINE)
-}
-
-// Reads the next words of a line as numbers.
-fn read_values(text: &[u8], g: Game, first: usize, end: usize, values: &mut [f32]) -> Game
-    ensures { put result values.new ≡ values_put text.now g first end values.old }
-{
-    let mut at = g.place;
-    let mut i = first;
-    while i < end {
-        if i >= values.len() {
-            return read_to(g, at, ROOM);
-        }
-        let w = lines::next_word(text, at);
-        if !lines::is_number(w) {
-            return read_to(g, w.start, NO_NUMBER);
-        }
-        values[i] = lines::value(text, w);
-        at = w.end;
-        i += 1;
-    }
-    read_to(g, at, FINE)
+    Ok(read_to(g, at))
 }
 
 // The game after a line whose numbers are read: a word that is left over is wrong.
-fn ended(text: &[u8], g: Game) -> Game
+#[tactic(auto, unfolding(crate::specs::Games::ended))]
+fn ended(text: &[u8], g: Game) -> Result<Game, Wrong>
     ensures { result ≡ ended text.now g }
 {
-    if g.fault != FINE {
-        return g;
-    }
     let w = lines::next_word(text, g.place);
-    if w.start == w.end {
-        return g;
+    if w.start != w.end {
+        return Err(wrong_at(g, w.start, Fault::More));
     }
-    read_to(g, w.start, MORE)
-}
-
-fn sized(x: u32) -> usize
-    ensures { result ≡ x }
-{
-    x as usize
+    Ok(g)
 }
 
 /// The whole number at a place, and 0 behind the last.
 pub fn whole(wholes: &[u32], i: usize) -> usize
     ensures { result ≡ slice_index wholes.now i }
 {
-    if i < wholes.len() {
-        return sized(wholes[i]);
-    }
-    0
+    wholes.get(i).map_or(0, |&x| x as usize)
 }
 
 /// Where the name of a counter or query stands.
 pub fn name_of(wholes: &[u32], node: usize) -> usize
     ensures { result ≡ name_of wholes.now node }
 {
-    whole(wholes, std::num::wrapping_add_usize(PLACES, node))
+    whole(wholes, PLACES.wrapping_add(node))
 }
 
 // `lanes NAME..`
-fn lanes_line(text: &[u8], g: Game) -> Game
+#[tactic(auto, unfolding(crate::specs::Games::lanes_line))]
+fn lanes_line(text: &[u8], g: Game) -> Result<Game, Wrong>
     ensures { result ≡ lanes_line text.now g }
 {
     let count = lines::count_words(text, g.place);
-    if g.dimension != 0 {
-        return read_to(g, g.place, LANES);
+    if g.dimension != 0 || count < 1 || count > 16 {
+        return Err(wrong_at(g, g.place, Fault::Lanes));
     }
-    if count < 1 {
-        return read_to(g, g.place, LANES);
-    }
-    if count > 16 {
-        return read_to(g, g.place, LANES);
-    }
-    let mut r = g;
-    r.dimension = count;
-    r.title = lines::find(text, g.place, lines::BLANKS);
-    r
+    Ok(Game {
+        dimension: count,
+        title: lines::find(text, g.place, Part::Blanks),
+        ..g
+    })
 }
 
 // The game with the sizes and the threshold of a build.
+#[tactic(auto, unfolding(crate::specs::Games::with_params))]
 fn with_params(g: Game, wholes: &[u32], threshold: f32) -> Game
     ensures { result ≡ with_params g wholes.now threshold }
 {
     let params = SsgParams {
-        threshold: threshold,
+        threshold,
         init_k: whole(wholes, SIZES),
         index_size: whole(wholes, SIZES + 1),
         neighbor_neighbor_size: whole(wholes, SIZES + 2),
     };
-    let mut r = g;
-    r.params = params;
-    r
+    Game { params, ..g }
 }
 
 // `teach INIT_K INDEX_SIZE NEIGHBOR_NEIGHBOR_SIZE THRESHOLD`
-fn teach_line(text: &[u8], g: Game, wholes: &mut [u32]) -> Game
+#[tactic(auto, unfolding(crate::specs::Games::taught, crate::specs::Games::teach_line))]
+fn teach_line(text: &[u8], g: Game, wholes: &mut [u32]) -> Result<Game, Wrong>
     ensures { put result wholes.new ≡ teach_line text.now g wholes.old }
 {
-    let a = read_wholes(text, g, SIZES, K, wholes);
-    if a.fault != FINE {
-        return a;
-    }
+    let sizes = read_numbers(text, g, SIZES, K, wholes)?;
     let mut threshold = [0.0f32; 1];
-    let b = read_values(text, a, 0, 1, &mut threshold);
-    with_params(ended(text, b), wholes, threshold[0])
+    let all = read_numbers(text, sizes, 0, 1, &mut threshold)?;
+    let r = ended(text, all)?;
+    Ok(with_params(r, wholes, threshold[0]))
 }
 
 // `names K`
-fn names_line(text: &[u8], g: Game, wholes: &mut [u32]) -> Game
+#[tactic(auto, unfolding(crate::specs::Games::names_line))]
+fn names_line(text: &[u8], g: Game, wholes: &mut [u32]) -> Result<Game, Wrong>
     ensures { put result wholes.new ≡ names_line text.now g wholes.old }
 {
-    let a = read_wholes(text, g, K, PLACES, wholes);
-    let mut r = ended(text, a);
-    r.k = whole(wholes, K);
-    r
+    let number = read_numbers(text, g, K, PLACES, wholes)?;
+    let r = ended(text, number)?;
+    Ok(Game {
+        k: whole(wholes, K),
+        ..r
+    })
 }
 
 // `roots NODE..`
-fn roots_line(text: &[u8], g: Game, wholes: &mut [u32]) -> Game
+#[tactic(auto, unfolding(crate::specs::Games::roots_line))]
+fn roots_line(text: &[u8], g: Game, wholes: &mut [u32]) -> Result<Game, Wrong>
     ensures { put result wholes.new ≡ roots_line text.now g wholes.old }
 {
-    let count = lines::count_words(text, g.place);
-    if count > SIZES {
-        return read_to(g, g.place, ROOM);
+    let roots = lines::count_words(text, g.place);
+    if roots > SIZES {
+        return Err(wrong_at(g, g.place, Fault::Room));
     }
-    let mut r = read_wholes(text, g, 0, count, wholes);
-    r.roots = count;
-    r
-}
-
-// One counter or query more, where nothing is wrong: counters stand before queries.
-fn with_point(g: Game, kind: u64, place: usize) -> Game
-    ensures { result ≡ with_point g kind place }
-{
-    if g.fault != FINE {
-        return g;
-    }
-    let mut r = g;
-    if kind == QUERY {
-        r.asked = std::num::wrapping_add_usize(g.asked, 1);
-        return r;
-    }
-    r.n = std::num::wrapping_add_usize(g.n, 1);
-    if g.asked != 0 {
-        return read_to(g, place, LATE);
-    }
-    r
-}
-
-fn short(place: usize) -> u32
-    ensures { result ≡ place % 65536 }
-{
-    (place % 65536) as u32
+    let r = read_numbers(text, g, 0, roots, wholes)?;
+    Ok(Game { roots, ..r })
 }
 
 // `counter NAME LANE..` and `query NAME LANE..`: the name's place and the lanes, behind all that are there.
-fn point_line(text: &[u8], g: Game, kind: u64, wholes: &mut [u32], values: &mut [f32]) -> Game
-    ensures { read result wholes.new values.new ≡ point_line text.now kind (read g wholes.old values.old) }
+#[tactic(auto, unfolding(crate::specs::Games::point_line))]
+fn point_line(text: &[u8], g: Game, wholes: &mut [u32], values: &mut [f32]) -> Result<Game, Wrong>
+    ensures { read result wholes.new values.new ≡ point_line text.now g wholes.old values.old }
 {
     if g.dimension == 0 {
-        return read_to(g, g.place, LANES);
+        return Err(wrong_at(g, g.place, Fault::Lanes));
     }
-    let i = std::num::wrapping_add_usize(g.n, g.asked);
-    let slot = std::num::wrapping_add_usize(PLACES, i);
+    let i = g.n.wrapping_add(g.asked);
+    let slot = PLACES.wrapping_add(i);
     if slot >= wholes.len() {
-        return read_to(g, g.place, ROOM);
+        return Err(wrong_at(g, g.place, Fault::Room));
     }
     let name = lines::next_word(text, g.place);
-    wholes[slot] = short(name.start);
+    wholes[slot] = (name.start % 65536) as u32;
     let first = cases::area(i, g.dimension);
-    let end = std::num::wrapping_add_usize(first, g.dimension);
-    let read = read_values(text, read_to(g, name.end, FINE), first, end, values);
-    with_point(ended(text, read), kind, g.place)
+    let end = first.wrapping_add(g.dimension);
+    let r = read_numbers(text, read_to(g, name.end), first, end, values)?;
+    ended(text, r)
 }
 
-// A line that says what there is: lanes, sizes, roots, names.
-fn setting(text: &[u8], g: Game, kind: u64, start: usize, wholes: &mut [u32]) -> Game
-    ensures { put result wholes.new ≡ setting text.now g kind start wholes.old }
+// One counter more: counters stand before queries.
+#[tactic(auto, unfolding(crate::specs::Games::with_counter))]
+fn with_counter(g: Game, place: usize) -> Result<Game, Wrong>
+    ensures { result ≡ with_counter place g }
 {
-    if kind == NAMED_LANES {
-        return lanes_line(text, g);
+    if g.asked != 0 {
+        return Err(wrong_at(g, place, Fault::Late));
     }
-    if kind == TEACH {
-        return teach_line(text, g, wholes);
-    }
-    if kind == NAMES {
-        return names_line(text, g, wholes);
-    }
-    if kind == ROOTS {
-        return roots_line(text, g, wholes);
-    }
-    read_to(g, start, UNKNOWN)
+    Ok(Game {
+        n: g.n.wrapping_add(1),
+        ..g
+    })
 }
 
-fn is_point(kind: u64) -> bool
-    ensures { result ≡ is_point kind }
+// One query more.
+fn with_query(g: Game) -> Game
+    ensures { result ≡ with_query g }
 {
-    if kind == COUNTER {
-        return true;
+    Game {
+        asked: g.asked.wrapping_add(1),
+        ..g
     }
-    kind == QUERY
 }
 
-fn line(text: &[u8], g: Game, wholes: &mut [u32], values: &mut [f32]) -> Game
-    ensures { read result wholes.new values.new ≡ line_read text.now (read g wholes.old values.old) }
+#[tactic(auto, unfolding(crate::specs::Games::keyword_of))]
+fn keyword_of(word: &[u8]) -> Option<Keyword>
+    ensures { result ≡ keyword_of word.now }
+{
+    if word == b"lanes".as_slice() {
+        Some(Keyword::Lanes)
+    } else if word == b"teach".as_slice() {
+        Some(Keyword::Teach)
+    } else if word == b"names".as_slice() {
+        Some(Keyword::Names)
+    } else if word == b"roots".as_slice() {
+        Some(Keyword::Roots)
+    } else if word == b"counter".as_slice() {
+        Some(Keyword::Counter)
+    } else if word == b"query".as_slice() {
+        Some(Keyword::Query)
+    } else {
+        None
+    }
+}
+
+#[tactic(auto, unfolding(crate::specs::Games::line_read, crate::specs::Games::said))]
+fn line(text: &[u8], g: Game, wholes: &mut [u32], values: &mut [f32]) -> Result<Game, Wrong>
+    ensures { read result wholes.new values.new ≡ line_read text.now g wholes.old values.old }
 {
     let w = lines::next_word(text, g.place);
     if w.start == w.end {
-        return g;
+        return Ok(g);
     }
-    let behind = read_to(g, w.end, FINE);
-    if is_point(w.spelt) {
-        return point_line(text, behind, w.spelt, wholes, values);
+    let behind = read_to(g, w.end);
+    match keyword_of(lines::spelt(text, w)) {
+        Some(Keyword::Lanes) => lanes_line(text, behind),
+        Some(Keyword::Teach) => teach_line(text, behind, wholes),
+        Some(Keyword::Names) => names_line(text, behind, wholes),
+        Some(Keyword::Roots) => roots_line(text, behind, wholes),
+        Some(Keyword::Counter) => {
+            let r = point_line(text, behind, wholes, values)?;
+            with_counter(r, w.end)
+        }
+        Some(Keyword::Query) => {
+            let r = point_line(text, behind, wholes, values)?;
+            Ok(with_query(r))
+        }
+        None => Err(wrong_at(g, w.start, Fault::Unknown)),
     }
-    setting(text, behind, w.spelt, w.start, wholes)
 }
 
-// The game read up to the start of the next line, where nothing is wrong.
+// The game read up to the start of the next line.
 fn next_line(text: &[u8], g: Game) -> Game
     ensures { result ≡ next_line text.now g }
 {
-    if g.fault != FINE {
-        return g;
+    let end = lines::find(text, g.place, Part::Line);
+    Game {
+        place: end.wrapping_add(1),
+        line: g.line.wrapping_add(1),
+        ..g
     }
-    let end = lines::find(text, g.place, lines::LINE);
-    let mut r = g;
-    r.place = std::num::wrapping_add_usize(end, 1);
-    r.line = std::num::wrapping_add_usize(g.line, 1);
-    r
-}
-
-fn whole_line(text: &[u8], g: Game, wholes: &mut [u32], values: &mut [f32]) -> Game
-    ensures { read result wholes.new values.new ≡ whole_line text.now (read g wholes.old values.old) }
-{
-    let r = line(text, g, wholes, values);
-    next_line(text, r)
 }
 
 /// Reads a whole file, up to the first thing that is wrong. A proved loop has to end: it counts the lines, and stops at more than there are bytes.
-pub fn read(text: &[u8], wholes: &mut [u32], values: &mut [f32]) -> Game
+#[tactic(auto, using(crate::proofs::Laws::file))]
+pub fn read(text: &[u8], wholes: &mut [u32], values: &mut [f32]) -> Result<Game, Wrong>
     ensures { read result wholes.new values.new ≡ file_read text.now wholes.old values.old }
 {
     let mut g = nothing();
-    let mut turns: u32 = 65536;
-    while turns > 0 {
+    for _line in 0..65536usize {
         if g.place >= text.len() {
-            return g;
+            return Ok(g);
         }
-        let next = whole_line(text, g, wholes, values);
-        g = next;
-        if g.fault != FINE {
-            return g;
-        }
-        turns -= 1;
+        let r = line(text, g, wholes, values)?;
+        g = next_line(text, r);
     }
-    g
+    Ok(g)
 }

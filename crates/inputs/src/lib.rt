@@ -17,12 +17,9 @@ fn has_arg(env: &impl Env, i: usize) -> bool {
 
 /// How many arguments the program was started with, its own name among them.
 pub fn arg_count(env: &impl Env) -> usize {
-    for i in 0..usize::MAX {
-        if !has_arg(env, i) {
-            return i;
-        }
-    }
-    usize::MAX
+    (0..usize::MAX)
+        .find(|i| !has_arg(env, *i))
+        .unwrap_or(usize::MAX)
 }
 
 /// Puts an argument at the front of the room, and answers its length: 0 where it is missing or longer than the room.

@@ -3,15 +3,14 @@ use mathlib.Core.Path.{◌≡◌, refl, ap, ◌∙◌}
 use mathlib.Core.List.{List}
 use Prim.Native.Nat.{ℕ, zero, suc, ◌+◌, ◌-◌, ◌*◌, ◌/◌, ◌≤◌, ◌<◌}
 use native.Mathlib.Omega.{arith}
-use borrow.Author.Tests.{ne_eqb}
+use Rattle.std.proofs.Common.{true, is_some}
 use Rattle.cases.specs.declared.Cursor.{Cursor}
-use Rattle.cases.specs.declared.Size.{Size}
 use Rattle.cases.specs.Text.{word_at, size_of, size_at, area_of, behind}
 use Rattle.cases.proofs.Laws.{behind_fault}
 use Rattle.kinds.specs.Kinds.{times, size, behind_run, behind_state, behind_move, behind_iteration}
 
 abbrev pub Bad : Cursor → Type 0
-Bad c = c.fault ≡ 0 → ⊥
+Bad c = is_some c.fault ≡ true
 
 module _ (step : Cursor → Cursor) where
   pub times_fault : ((c : Cursor) → Bad c → step c ≡ c) → (n : ℕ) (c : Cursor) → Bad c → times step n c ≡ c
@@ -19,11 +18,11 @@ module _ (step : Cursor → Cursor) where
   times_fault stays zero c h = refl
   times_fault stays (suc n) c h = ap (times step n) (stays c h) ∙ times_fault stays n c h
 
-  pub times_turn : (n : ℕ) (c next : Cursor) → next ≡ step c → 0 < n → times step (n - 1) next ≡ times step n c
+  pub times_turn : (n i : ℕ) (c next : Cursor) → next ≡ step c → i < n → times step (n - (i + 1)) next ≡ times step (n - i) c
   unfolding times
-  times_turn n c next e h =
-      let less : suc (n - 1) ≡ n = omega arith in
-      ap (times step (n - 1)) e ∙ ap (λ (k : ℕ). times step k c) less
+  times_turn n i c next e h =
+      let less : suc (n - (i + 1)) ≡ n - i = omega arith in
+      ap (times step (n - (i + 1))) e ∙ ap (λ (k : ℕ). times step k c) less
 
   pub times_none : (n : ℕ) (c : Cursor) → n ≤ 0 → c ≡ times step n c
   unfolding times
@@ -34,30 +33,17 @@ module _ (step : Cursor → Cursor) where
 module _ (text : List ℕ) where
   pub size_fault : (c : Cursor) → Bad c → size text c ≡ record { value = 0; cursor = c }
   unfolding size_at size_of word_at
-  size_fault c h = rw (ne_eqb c.fault 0 h)
+  size_fault c h = rw h
 
   pub run_fault : (c : Cursor) → Bad c → behind_run text c ≡ c
   unfolding behind_run behind
   run_fault c h = rw (size_fault c h)
 
-  pub run_made : (c next : Cursor) (s : Size) → s ≡ size text c → next ≡ behind s.value text s.cursor → next ≡ behind_run text c
-  unfolding behind_run
-  run_made c next s e p = p ∙ ap (λ (t : Size). behind t.value text t.cursor) e
-
   pub move_fault : (c : Cursor) → Bad c → behind_move text c ≡ c
   unfolding behind_move behind
   move_fault c h = rw (size_fault c h)
-
-  pub move_made : (c next : Cursor) (s : Size) → s ≡ size text c → next ≡ behind (2 * s.value) text s.cursor → next ≡ behind_move text c
-  unfolding behind_move
-  move_made c next s e p = p ∙ ap (λ (t : Size). behind (2 * t.value) text t.cursor) e
 
   pub iteration_fault : (n k : ℕ) (c : Cursor) → Bad c → behind_iteration text n k c ≡ c
   unfolding behind_iteration behind_state
   iteration_fault n k c h =
       rw (behind_fault 2 text c h, behind_fault (2 * area_of n k) text c h, times_fault (behind_run text) run_fault (area_of 4 n) c h) (behind_fault ((area_of n n + 31) / 32) text c h)
-
-  pub iteration_made :
-      (n k : ℕ) (c counts next : Cursor) → counts ≡ behind 2 text c → next ≡ behind_state text n k counts → next ≡ behind_iteration text n k c
-  unfolding behind_iteration
-  iteration_made n k c counts next e p = p ∙ ap (behind_state text n k) e

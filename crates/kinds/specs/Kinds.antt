@@ -1,17 +1,41 @@
--- The place behind a case of each kind, and behind its parts, by the format of oracle/README.md. Assumes nothing.
-use Rattle.std.specs.Prelude.{cond, List, ℕ, zero, suc, ◌+◌, ◌*◌, ◌/◌, eqb}
+-- The kinds of the oracle's cases, and the place behind one of each and behind its parts, by the format of oracle/README.md. Assumes nothing.
+use Rattle.std.specs.Prelude.{◌≡◌, true, is_some, cond, List, ℕ, zero, suc, ◌+◌, ◌*◌, ◌/◌, ◌==◌, Option, Some, None, option_and_then}
 use Rattle.cases.specs.declared.Cursor.{Cursor}
-use Rattle.cases.specs.declared.Size.{Size}
-use Rattle.cases.specs.Text.{faulted, word_at, size_at, area_of, behind}
+use Rattle.cases.specs.declared.Read.{Read}
+use Rattle.kinds.specs.declared.Kind.{Kind}
+use Rattle.kinds.specs.declared.Kind.TheVariants.{Build, Search, Descent, Iteration, Relay, Links}
+use Rattle.replays.specs.Next.{case_at}
+use Rattle.cases.specs.Text.{word_at, size_at, area_of, behind}
+
+-- The kind that a number says
+unfoldable pub kind_of : ℕ → Option Kind
+kind_of number =
+    cond (number == 1) (Some Build)
+    (cond (number == 2) (Some Search)
+    (cond (number == 3) (Some Descent)
+    (cond (number == 4) (Some Iteration)
+    (cond (number == 5) (Some Relay)
+    (cond (number == 6) (Some Links) None)))))
+
+-- The next case and its kind
+unfoldable pub kind_at : List ℕ → ℕ → Cursor → Read (Option Kind)
+kind_at text passed c =
+    let case = case_at text passed c in
+    record { value = option_and_then kind_of case.value; cursor = case.cursor }
 
 -- n steps, one after the other
 unfoldable pub times : (Cursor → Cursor) → ℕ → Cursor → Cursor
 times step zero c = c
 times step (suc n) c = times step n (step c)
 
+-- A step goes where `made` says, and nowhere behind a fault.
+pub record Steps (Post : Cursor → Cursor → Type 0) (made : Cursor → Cursor) : Type 0 where
+  pub goes : (c r : Cursor) → Post c r → r ≡ made c
+  pub stays : (c : Cursor) → is_some c.fault ≡ true → made c ≡ c
+
 module _ (text : List ℕ) where
   -- A length; none in a list is over 65,536.
-  abbrev pub size : Cursor → Size
+  abbrev pub size : Cursor → Read ℕ
   size c = size_at 65536 text c
 
   -- A run after its length
@@ -99,12 +123,11 @@ module _ (text : List ℕ) where
       let row = size n.cursor in
       behind (1 + area_of n.value d.value + 4 * area_of n.value row.value) text row.cursor
 
-  -- A case of some kind; a kind that there is not is a fault.
-  unfoldable pub behind_case : ℕ → Cursor → Cursor
-  behind_case kind c =
-      cond (eqb kind 1) (behind_build c)
-      (cond (eqb kind 2) (behind_search c)
-      (cond (eqb kind 3) (behind_descent c)
-      (cond (eqb kind 4) (behind_alone c)
-      (cond (eqb kind 5) (behind_relay c)
-      (cond (eqb kind 6) (behind_links c) (faulted c 4))))))
+  -- A case of some kind
+  unfoldable pub behind_case : Kind → Cursor → Cursor
+  behind_case Build c = behind_build c
+  behind_case Search c = behind_search c
+  behind_case Descent c = behind_descent c
+  behind_case Iteration c = behind_alone c
+  behind_case Relay c = behind_relay c
+  behind_case Links c = behind_links c

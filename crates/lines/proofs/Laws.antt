@@ -1,20 +1,23 @@
 -- One turn and the end of each loop over the text of a game. Assumes nothing.
 use Rattle.std.proofs.Common.{◌≡◌, ℕ, suc, ◌+◌, ◌-◌, ◌<◌, ◌≤◌, true, false, List, length, get_or, drop, pos, refl, add-one, arith, drop_of_length-le, drop-cons, eq-eqb, ne_eqb}
 use lib.Ieee.{binary32, of_bits, of_int}
+use Rattle.lines.specs.declared.Part.{Part}
+use Rattle.lines.specs.declared.Part.TheVariants.{OneWord, Blanks}
+use Rattle.lines.specs.declared.Shape.{Shape}
 use Rattle.lines.specs.declared.Word.{Word}
-use Rattle.lines.specs.Words.{stops, end_of, end_from, spelt_with, shape_with, digits_with, word_of, word_at, words_from, empty_at}
+use Rattle.lines.specs.Words.{stops, end_of, end_from, shape_with, digits_with, word_of, word_at, words_from, empty_at}
 
 module _ (text : List ℕ) (at : ℕ) where
-  module _ (what : ℕ) where
-    pub end-end : length text ≤ at → end_from what text at ≡ at
+  module _ (part : Part) where
+    pub end-end : length text ≤ at → end_from part text at ≡ at
     unfolding end_of
     end-end h = rw (drop_of_length-le text h)
 
-    pub end_stop : at < length text → stops (get_or text at 0) what ≡ true → end_from what text at ≡ at
+    pub end_stop : at < length text → stops (get_or text at 0) part ≡ true → end_from part text at ≡ at
     unfolding end_of
     end_stop h stop = rw (drop-cons text at 0 h, stop)
 
-    pub end_turn : at < length text → stops (get_or text at 0) what ≡ false → end_from what text (at + 1) ≡ end_from what text at
+    pub end_turn : at < length text → stops (get_or text at 0) part ≡ false → end_from part text (at + 1) ≡ end_from part text at
     unfolding end_of
     end_turn h on = rw (drop-cons text at 0 h, on, add-one)
 
@@ -22,19 +25,19 @@ module _ (text : List ℕ) (at : ℕ) where
   unfolding word_of
   word_end w h = rw (drop_of_length-le text h)
 
-  pub word_stop : (w : Word) → at < length text → stops (get_or text at 0) 2 ≡ true → word_of w (drop at text) ≡ w
+  pub word_stop : (w : Word) → at < length text → stops (get_or text at 0) OneWord ≡ true → word_of w (drop at text) ≡ w
   unfolding word_of
   word_stop w h stop = rw (drop-cons text at 0 h, stop)
 
   pub word_turn :
-      (start spelt shape digits spelt' shape' digits' : ℕ) → at < length text → stops (get_or text at 0) 2 ≡ false
-      → spelt' ≡ spelt_with spelt (get_or text at 0) → shape' ≡ shape_with shape digits (get_or text at 0) → digits' ≡ digits_with digits (get_or text at 0)
-      → word_of (record { start = start; end = at + 1; spelt = spelt'; shape = shape'; digits = digits' }) (drop (at + 1) text)
-      ≡ word_of (record { start = start; end = at; spelt = spelt; shape = shape; digits = digits }) (drop at text)
+      (start digits digits' : ℕ) (shape shape' : Shape) → at < length text → stops (get_or text at 0) OneWord ≡ false
+      → shape' ≡ shape_with shape digits (get_or text at 0) → digits' ≡ digits_with digits (get_or text at 0)
+      → word_of (record { start = start; end = at + 1; shape = shape'; digits = digits' }) (drop (at + 1) text)
+      ≡ word_of (record { start = start; end = at; shape = shape; digits = digits }) (drop at text)
   unfolding word_of
-  word_turn start spelt shape digits spelt' shape' digits' h on a b c = rw (drop-cons text at 0 h, on, a, b, c, add-one)
+  word_turn start digits digits' shape shape' h on a b = rw (drop-cons text at 0 h, on, a, b, add-one)
 
-pub word_start : (text : List ℕ) (from start : ℕ) → start ≡ end_from 3 text from → word_of (empty_at start) (drop start text) ≡ word_at text from
+pub word_start : (text : List ℕ) (from start : ℕ) → start ≡ end_from Blanks text from → word_of (empty_at start) (drop start text) ≡ word_at text from
 unfolding word_at
 word_start text from start e = rw e
 
@@ -65,9 +68,9 @@ count-all text most count at h =
     rw none (omega arith)
 
 -- The literals of `scale` as the whole numbers that they are
-pub one-is : of_bits binary32 0x3F800000 ≡ of_int binary32 (pos 1)
+pub one_is : of_bits binary32 0x3F800000 ≡ of_int binary32 (pos 1)
 unfolding of_bits of_int
-one-is = refl
+one_is = refl
 
 pub ten_is : of_bits binary32 0x41200000 ≡ of_int binary32 (pos 10)
 unfolding of_bits of_int

@@ -2,6 +2,7 @@
 #![tactic(auto)]
 
 use cases::Cursor;
+use kinds::Kind;
 use std::io;
 use std::os::fd::{AsRawFd, RawFd};
 
@@ -9,77 +10,57 @@ use std::os::fd::{AsRawFd, RawFd};
 #[derive(Clone, Copy)]
 struct Tally {
     passed: u32,
-    kinds: [u32; 7],
+    of_kind: [u32; 6],
     cursor: Cursor,
 }
 
-fn none() -> Tally {
-    Tally {
-        passed: 0,
-        kinds: [0; 7],
-        cursor: cases::start(),
-    }
-}
-
 // A case is passed and counted.
-fn with_case(text: &[u8], t: Tally, kind: u32, c: Cursor) -> Tally {
-    let mut kinds = t.kinds;
-    let at = (kind % 7) as usize;
-    kinds[at] = std::num::wrapping_add_u32(kinds[at], 1);
+fn with_case(text: &[u8], t: Tally, kind: Kind, c: Cursor) -> Tally {
+    let mut of_kind = t.of_kind;
+    let at = kind as usize;
+    of_kind[at] = of_kind[at].wrapping_add(1);
     Tally {
-        passed: std::num::wrapping_add_u32(t.passed, 1),
-        kinds: kinds,
+        passed: t.passed.wrapping_add(1),
+        of_kind,
         cursor: kinds::pass_case(text, c, kind),
     }
 }
 
-fn with_cursor(t: Tally, c: Cursor) -> Tally {
-    let kinds = t.kinds;
-    Tally {
-        passed: t.passed,
-        kinds: kinds,
-        cursor: c,
-    }
-}
-
-// A proved loop has to end: it counts its turns down, from more cases than a list has.
+// A proved loop has to end: it counts its turns, up to more cases than a list has.
 fn counted(text: &[u8]) -> Tally {
-    let mut turns: u32 = 65536;
-    let mut t = none();
-    while turns > 0 {
-        let case = replays::next_case(text, t.cursor, t.passed);
-        if case.kind == 0 {
-            return with_cursor(t, case.cursor);
-        }
-        let next = with_case(text, t, case.kind, case.cursor);
-        t = next;
-        turns -= 1;
+    let mut t = Tally {
+        passed: 0,
+        of_kind: [0; 6],
+        cursor: cases::start(),
+    };
+    for _ in 0..65536 {
+        let case = kinds::next_case(text, t.cursor, t.passed);
+        let Some(kind) = case.value else {
+            return Tally {
+                cursor: case.cursor,
+                ..t
+            };
+        };
+        t = with_case(text, t, kind, case.cursor);
     }
     t
 }
 
-fn put(rt: &impl Print, n: u32, label: &[u8]) -> io::Result<()> {
-    rt.print(n)?;
-    rt.write_all(label)
-}
-
 fn print(rt: &impl Print, t: Tally) -> io::Result<()> {
-    let kinds = t.kinds;
-    put(rt, kinds[1], b" builds, ")?;
-    put(rt, kinds[2], b" searches, ")?;
-    put(rt, kinds[3], b" descents, ")?;
-    put(rt, kinds[4], b" single iterations, ")?;
-    put(rt, kinds[5], b" relays, ")?;
-    put(rt, kinds[6], b" links; ")?;
-    put(rt, t.cursor.count, b" numbers, sum ")?;
-    put(rt, t.cursor.sum, b"\n")
+    let [builds, searches, descents, iterations, relays, links] = t.of_kind;
+    print!(rt;
+        "{builds} builds, {searches} searches, {descents} descents, {iterations} single iterations, "
+    )?;
+    let Cursor { count, sum, .. } = t.cursor;
+    println!(rt; "{relays} relays, {links} links; {count} numbers, sum {sum}")
 }
 
 // What went wrong first, and where.
 fn print_fault(rt: &impl Print, c: Cursor) -> io::Result<()> {
-    if c.fault != 0 {
-        put(rt, c.fault, b" is the fault, at byte ")?;
-        rt.println(c.at)?;
+    if c.fault.is_some() {
+        let fault = cases::fault_number(c.fault);
+        let at = c.at;
+        println!(rt; "{fault} is the fault, at byte {at}")?;
     }
     Ok(())
 }
@@ -91,7 +72,7 @@ fn tell(rt: &HostRuntime, i: usize) -> io::Result<()> {
     rt.write_all(&path[..n])?;
     rt.write_all(b": ")?;
     let mut room = cases::room();
-    let long = tallies::read_list(rt, i, &mut room)?;
+    let long = tallies::read_list(rt, Some(i), &mut room)?;
     let t = counted(&room[..long]);
     print(rt, t)?;
     print_fault(rt, t.cursor)
@@ -101,9 +82,7 @@ fn tell(rt: &HostRuntime, i: usize) -> io::Result<()> {
 fn free_number(rt: &HostRuntime, i: usize) -> Option<RawFd> {
     let mut path = [0u8; 4096];
     let n = inputs::arg(rt, i, &mut path);
-    let Ok(file) = inputs::open(rt, &path[..n]) else {
-        return None;
-    };
+    let file = inputs::open(rt, &path[..n]).ok()?;
     Some(file.as_raw_fd())
 }
 
@@ -111,10 +90,7 @@ fn free_number(rt: &HostRuntime, i: usize) -> Option<RawFd> {
 fn read_list(rt: &HostRuntime, i: usize) -> io::Result<()> {
     let first = free_number(rt, i);
     tell(rt, i)?;
-    if first.is_none() {
-        return Ok(());
-    }
-    if first == free_number(rt, i) {
+    if first.is_some() && first == free_number(rt, i) {
         println!(rt; "closed")?;
     }
     Ok(())

@@ -1,3 +1,2 @@
--- `Messages`: where the lines of a text start. `Files`: which files are read.
-pub mod Messages
+-- `Files`: which files are read.
 pub mod Files

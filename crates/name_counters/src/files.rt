@@ -10,21 +10,17 @@ pub fn too_long(n: usize) -> bool
 }
 
 /// The first argument that is read, of so many: 0 if there is no other.
+#[tactic(auto, unfolding(crate::specs::Files::first_of))]
 pub fn first(count: usize) -> usize
     ensures { result ≡ first_of count }
 {
-    if count < 2 {
-        return 0;
-    }
-    1
+    if count < 2 { 0 } else { 1 }
 }
 
 /// Whether an argument is the `-` of standard input.
+#[tactic(auto, unfolding(crate::specs::Files::is_dash))]
 pub fn is_dash(name: &[u8]) -> bool
     ensures { result ≡ is_dash name.now }
 {
-    if name.len() != 1 {
-        return false;
-    }
-    name[0] == b'-'
+    matches!(name, [b'-'])
 }

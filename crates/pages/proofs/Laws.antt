@@ -2,12 +2,13 @@
 use mathlib.Core.Path.{◌≡◌, refl, sym, ap, subst, ◌∙◌}
 use mathlib.Core.Bool.{Bool, true, false, not}
 use mathlib.Core.List.{List, [], ◌∷◌, ◌++◌, append_assoc, append-nil}
-use Prim.Native.Nat.{ℕ, zero, suc, ◌+◌, ◌≤◌, ◌<◌, min}
+use Prim.Native.Nat.{ℕ, zero, suc, ◌+◌, ◌-◌, ◌≤◌, ◌<◌, min}
 use native.Mathlib.Omega.{arith}
-use native.Mathlib.Numerals.{add-one}
 use lib.Dec.{T, ltb, ltb→lt, nltb→le}
-use lib.ListN.{length, take, drop, get_or, set, length-set, length-append, drop_of_length-le}
-use lib.Seq.{drop-cons}
+use lib.ListN.{length, take, drop, set, length-append, drop_of_length-le}
+use Rattle.std.proofs.Common.{take-append-drop}
+use lib.Seq.{length-take-le}
+use borrow.Rule.Slice.PartMut.{put_mid}
 use Rattle.pages.specs.Page.{written_over, Puts}
 
 over-length : (at : ℕ) (text page : List ℕ) → length (written_over at text page) ≡ length page
@@ -104,36 +105,36 @@ running_long r = puts_long r.put
 pub running_end : {at place : ℕ} {whole page₀ page : List ℕ} → Running at whole page₀ [] page place → Puts at whole page₀ place page
 running_end r = puts_text (sym (append-nil r.done) ∙ r.all) r.put
 
--- in the loop of `put`: what is left of the text, over the page as it is, is the whole over the page as it was
-pub record Putting (at : ℕ) (text page₀ page : List ℕ) (i place : ℕ) : Type 0 where
-  pub rest : written_over place (drop i text) page ≡ written_over at text page₀
-  pub here : place ≡ at + i
-  pub within : i ≤ length text
-  pub long : length page ≡ length page₀
+-- a text that fits, put in the place of what the page holds there
+over_fits : (at : ℕ) (text page : List ℕ) → at + length text ≤ length page → put_mid at (length text) page text ≡ written_over at text page
+unfolding written_over
+over_fits zero [] [] h = refl
+over_fits zero [] (x ∷ xs) h = refl
+over_fits zero (b ∷ bs) [] h = absurd (omega (arith, h))
+over_fits zero (b ∷ bs) (x ∷ xs) h = ap (λ (l : List ℕ). b ∷ l) (over_fits zero bs xs (omega (arith, h)))
+over_fits (suc at) text [] h = absurd (omega (arith, h))
+over_fits (suc at) text (x ∷ xs) h = ap (λ (l : List ℕ). x ∷ l) (over_fits at text xs (omega (arith, h)))
 
-module _ {at : ℕ} {text page₀ page : List ℕ} {i place : ℕ} (inv : Putting at text page₀ page i place) where
-  pub putting_turn : i < length text → Putting at text page₀ (set page place (get_or text i 0)) (i + 1) (place + 1)
-  putting_turn h =
-      let here = inv.here in
+module _ (at start long : ℕ) (text page : List ℕ) (s : start ≡ min at (length page)) (l : long ≡ min (length text) (length page - start)) where
+  -- what there is no room for is left away
+  over_room : written_over start (take long text) page ≡ written_over start text page
+  over_room =
+      sym (go (ltb long (length text)) (ltb→lt long (length text)) (nltb→le long (length text))) ∙ over-append start (take long text) (drop long text) page
+      ∙ ap (λ (t : List ℕ). written_over start t page) (take-append-drop long text)
+    where
+      go : (b : Bool) → (T b → long < length text) → (T (not b) → length text ≤ long) → written_over (start + length (take long text)) (drop long text) (written_over start (take long text) page) ≡ written_over start (take long text) page
+      go true lt le =
+          let h = lt tt in
+          let taken = length-take-le long text (omega arith) in
+          let same = over-length start (take long text) page in
+          over_full _ _ _ (omega arith)
+      go false lt le = rw (drop_of_length-le text (le tt)) (over_none _ _)
+
+  pub puts_part : Puts at text page (start + long) (put_mid start (start + long - start) page (take long text))
+  puts_part =
+      let taken = length-take-le long text (omega arith) in
+      let part : start + long - start ≡ length (take long text) = omega arith in
       record {
-        rest = rw (add-one i, add-one place) (over-one place (get_or text i 0) (drop (suc i) text) page ∙ ap (λ (l : List ℕ). written_over place l page) (sym (drop-cons text i 0 h)) ∙ inv.rest);
-        here = omega arith;
-        within = omega arith;
-        long = length-set page place (get_or text i 0) ∙ inv.long;
+        place = omega arith;
+        written = rw part (over_fits start (take long text) page (omega arith)) ∙ over_room ∙ ap (λ (n : ℕ). written_over n text page) s ∙ over_clipped text page at;
       }
-
-  -- the page is full
-  pub putting_full : length page ≤ place → Puts at text page₀ (length page) page
-  putting_full h =
-      let here = inv.here in
-      let within = inv.within in
-      let long = inv.long in
-      record { place = omega arith; written = sym (over_full place (drop i text) page h) ∙ inv.rest }
-
-  -- the text is at its end
-  pub putting_end : length text ≤ i → {r : ℕ} → r ≡ min place (length page) → Puts at text page₀ r page
-  putting_end h {r} e =
-      let here = inv.here in
-      let within = inv.within in
-      let long = inv.long in
-      record { place = omega arith; written = sym (over_none place page) ∙ ap (λ (l : List ℕ). written_over place l page) (sym (drop_of_length-le text h)) ∙ inv.rest }

@@ -8,17 +8,10 @@ ghost use Rattle.pages.specs.Page.{labelled, Puts};
 pub fn put(page: &mut [u8], at: usize, bytes: &[u8]) -> usize
     ensures { Puts at bytes.now page.old result page.new }
 {
-    let mut i: usize = 0;
-    let mut place = at;
-    while i < bytes.len() {
-        if place >= page.len() {
-            return page.len();
-        }
-        page[place] = bytes[i];
-        place += 1;
-        i += 1;
-    }
-    cases::least(place, page.len())
+    let start = at.min(page.len());
+    let long = bytes.len().min(page.len() - start);
+    page[start..start + long].copy_from_slice(&bytes[..long]);
+    start + long
 }
 
 /// Puts a text and a number behind it, in decimal digits.
@@ -39,9 +32,8 @@ pub fn put_word(page: &mut [u8], at: usize, label: &[u8], word: u32) -> usize
 }
 
 /// What a page says up to a place.
-pub fn text<'a>(page: &'a [u8], end: usize) -> &'a [u8]
+pub fn text(page: &[u8], end: usize) -> &[u8]
     ensures { result.now ≡ take end page.now }
 {
-    let long = cases::least(end, page.len());
-    &page[..long]
+    &page[..end.min(page.len())]
 }

@@ -1,12 +1,10 @@
 -- One turn and the end of each loop over junk, over lanes and over what is put on a page, and a run that is read. Assumes nothing.
-use Rattle.std.proofs.Common.{◌≡◌, ℕ, suc, ◌+◌, ◌-◌, ◌<◌, ◌≤◌, Bool, true, false, not, List, [], ◌∷◌, ◌++◌, map, length, get_or, take, drop, set, sym, refl, ap, ◌∙◌, append_assoc, append-nil, add-one, arith, length-set, drop_of_length-le, length-take-le, take_all, drop-cons, take-suc-set, le-ltb, lt-ltb, eq-eqb, ne_eqb}
+use Rattle.std.proofs.Common.{◌≡◌, ℕ, suc, ◌+◌, ◌-◌, ◌<◌, ◌≤◌, Bool, true, false, List, [], ◌++◌, length, get_or, take, drop, set, sym, refl, ap, ◌∙◌, append_assoc, append-nil, add-one, arith, length-set, drop_of_length-le, length-take-le, take_all, drop-cons, take-suc-set, le-ltb, lt-ltb}
 use Rattle.cases.specs.declared.Cursor.{Cursor}
-use Rattle.cases.specs.declared.Size.{Size}
-use Rattle.cases.specs.declared.Word.{Word}
-use Rattle.cases.specs.Text.{word_at, size_at, behind}
-use Rattle.cases.proofs.Laws.{words_turn, words_none}
-use Rattle.refusals.specs.Given.{bits_of, lanes_at, run_at, run_in}
-use Rattle.refusals.specs.Junk.{rising, stands, differs}
+use Rattle.cases.specs.declared.Read.{Read}
+use Rattle.cases.specs.Text.{size_at, behind}
+use Rattle.refusals.specs.Given.{run_at, run_in}
+use Rattle.refusals.specs.Junk.{rising, stands}
 use Rattle.refusals.specs.Texts.{before_place, next_column, places_text, words_text}
 use Rattle.pages.specs.Page.{bytes, labelled}
 
@@ -36,49 +34,35 @@ module _ {A : Type 0} (next : A → A) where
       let none : 0 ≡ length xs₀ - i = omega arith in
       sym (append-nil xs) ∙ ap (λ (l : List A). l ++ []) (sym (take_all i xs (omega arith))) ∙ ap (λ (n : ℕ). take i xs ++ rising next v n) none ∙ inv.list
 
-  module _ (differs : A → A → Bool) (from : ℕ) (v : A) (xs : List A) (d : A) (i : ℕ) where
-    pub stands-end : length xs ≤ i → stands next differs from i v (drop i xs) ≡ true
+  module _ (same : A → A → Bool) (from : ℕ) (v : A) (xs : List A) (d : A) (i : ℕ) where
+    pub stands-end : length xs ≤ i → stands next same from i v (drop i xs) ≡ true
     unfolding stands
     stands-end h = rw (drop_of_length-le xs h)
 
     module _ (h : i < length xs) where
-      pub stands_skip : i < from → stands next differs from (i + 1) (next v) (drop (i + 1) xs) ≡ stands next differs from i v (drop i xs)
+      pub stands_skip : i < from → stands next same from (i + 1) (next v) (drop (i + 1) xs) ≡ stands next same from i v (drop i xs)
       unfolding stands
       stands_skip s = rw (drop-cons xs i d h, lt-ltb i from s, add-one i)
 
-      pub stands_same : from ≤ i → differs (get_or xs i d) v ≡ false → stands next differs from (i + 1) (next v) (drop (i + 1) xs) ≡ stands next differs from i v (drop i xs)
+      pub stands_same : from ≤ i → same (get_or xs i d) v ≡ true → stands next same from (i + 1) (next v) (drop (i + 1) xs) ≡ stands next same from i v (drop i xs)
       unfolding stands
       stands_same f e = rw (drop-cons xs i d h, le-ltb i from f, e, add-one i)
 
-      pub stands-not : from ≤ i → differs (get_or xs i d) v ≡ true → stands next differs from i v (drop i xs) ≡ false
+      pub stands-not : from ≤ i → same (get_or xs i d) v ≡ false → stands next same from i v (drop i xs) ≡ false
       unfolding stands
       stands-not f e = rw (drop-cons xs i d h, le-ltb i from f, e)
 
-pub word_same : (x y : ℕ) → x ≡ y → differs x y ≡ false
-word_same x y e = ap not (eq-eqb x y e)
+-- A run is read after its length.
+module _ {A : Type 0} (text : List ℕ) (c : Cursor) (out : List A) (s : Read ℕ) (read : s ≡ size_at (length out) text c) (fits : s.value ≤ length out) where
+  pub run_behind : (next : Cursor) → next ≡ behind (length (take s.value out)) text s.cursor → record { value = s.value; cursor = next } ≡ run_at (length out) text c
+  unfolding run_at
+  run_behind next there = let long = length-take-le s.value out fits in rw (← read, there, long)
 
-pub word-differs : (x y : ℕ) → (x ≡ y → ⊥) → differs x y ≡ true
-word-differs x y e = ap not (ne_eqb x y e)
-
-pub lanes_turn :
-    (n i : ℕ) (text : List ℕ) (c : Cursor) (w : Word) → w ≡ word_at text c → i < n
-    → lanes_at (n - i) text c ≡ bits_of w.value ∷ lanes_at (n - (i + 1)) text w.cursor
-unfolding lanes_at
-lanes_turn n i text c w e h = ap (map bits_of) (words_turn n i text c w e h)
-
-pub lanes_none : (text : List ℕ) (c : Cursor) → lanes_at 0 text c ≡ []
-unfolding lanes_at
-lanes_none text c = ap (map bits_of) (words_none text c)
-
-module _ {A : Type 0} (listed : ℕ → List ℕ → Cursor → List A) (text : List ℕ) (c : Cursor) (out : List A) where
   pub run_made :
-      (s : Size) → s ≡ size_at (length out) text c → s.value ≤ length out → (part : List A) (next : Cursor)
-      → part ≡ listed (length (take s.value out)) text s.cursor → next ≡ behind (length (take s.value out)) text s.cursor
-      → (record { value = s.value; cursor = next } ≡ run_at (length out) text c) × (part ++ drop s.value out ≡ run_in listed text c out)
-  unfolding run_at run_in
-  run_made s read fits part next made there =
-      let long = length-take-le s.value out fits in
-      (rw (← read, there, long), rw (← read, made, long))
+      (listed : ℕ → List ℕ → Cursor → List A) (part : List A) → part ≡ listed (length (take s.value out)) text s.cursor
+      → part ++ drop s.value out ≡ run_in listed text c out
+  unfolding run_in
+  run_made listed part made = let long = length-take-le s.value out fits in rw (← read, made, long)
 
 -- the words, and the places of a graph, from one on: the first, and the rest
 module _ (ws : List ℕ) (i : ℕ) where
@@ -100,3 +84,8 @@ module _ (ws : List ℕ) (i : ℕ) where
     pub places_over : length ws ≤ i → places_text size i column (drop i ws) ≡ []
     unfolding places_text
     places_over h = rw (drop_of_length-le ws h)
+
+-- the turns and the ends of filling, and of looking at what stands
+pub ruleset filling = (filling_none, filling_turn, filling_end)
+
+pub ruleset standing = (stands-end, stands_skip, stands_same, stands-not)

@@ -2,7 +2,7 @@
 use Rattle.std.specs.Prelude.{ℕ, cond, List, ◌++◌, map, length, drop, ◌==◌, Float}
 use Rattle.std.specs.Float.{nan}
 use Rattle.cases.specs.declared.Cursor.{Cursor}
-use Rattle.cases.specs.declared.Size.{Size}
+use Rattle.cases.specs.declared.Read.{Read}
 use Rattle.cases.specs.Text.{size_at, words_at, behind, float_of}
 
 -- The largest word stands for the largest number.
@@ -18,7 +18,7 @@ unfoldable pub lanes_at : ℕ → List ℕ → Cursor → List Float
 lanes_at n text c = map bits_of (words_at n text c)
 
 -- A run after its length, which is at most `most`: how many, and the place behind
-unfoldable pub run_at : ℕ → List ℕ → Cursor → Size
+unfoldable pub run_at : ℕ → List ℕ → Cursor → Read ℕ
 run_at most text c = let s = size_at most text c in record { value = s.value; cursor = behind s.value text s.cursor }
 
 -- The slice whose first places the run is read to, `listed` as words or as floats

@@ -1,7 +1,7 @@
 -- What lent places hold before a call, and whether it stands after it. Assumes nothing.
-use Rattle.std.specs.Prelude.{ℕ, zero, suc, ◌+◌, ◌%◌, ◌^◌, Bool, true, false, cond, not, List, [], ◌∷◌, ◌==◌, from_bits, nat_lt, Float}
+use Rattle.std.specs.Prelude.{ℕ, zero, suc, ◌+◌, ◌%◌, ◌^◌, Bool, true, false, cond, List, [], ◌∷◌, nat_eq, from_bits, nat_lt, Float}
 use Rattle.std.specs.Float.{binary32}
-use Rattle.std.specs.Float.Ieee.{add, ne}
+use Rattle.std.specs.Float.Ieee.{add, eq}
 use Rattle.replays.specs.Compare.{holds_only, all_zero}
 use Rattle.refusals.specs.declared.Left.{Left}
 use Rattle.refusals.specs.declared.Left.TheVariants.{Untouched, Zeroed, Written}
@@ -14,10 +14,10 @@ module _ {A : Type 0} (next : A → A) where
 
   -- whether each place from the one numbered `from` on holds what `rising` gives it; i is the number of the first, and v its own
   unfoldable pub stands : (A → A → Bool) → ℕ → ℕ → A → List A → Bool
-  stands differs from i v [] = true
-  stands differs from i v (x ∷ xs) =
-      let rest = stands differs from (suc i) (next v) xs in
-      cond (nat_lt i from) rest (cond (differs x v) false rest)
+  stands same from i v [] = true
+  stands same from i v (x ∷ xs) =
+      let rest = stands same from (suc i) (next v) xs in
+      cond (nat_lt i from) rest (cond (same x v) rest false)
 
 abbrev pub next_word : ℕ → ℕ
 next_word v = (v + 1) % 2 ^ 32
@@ -25,14 +25,11 @@ next_word v = (v + 1) % 2 ^ 32
 abbrev pub next_float : Float → Float
 next_float v = add binary32 v (from_bits binary32 0x3F800000)
 
-abbrev pub differs : ℕ → ℕ → Bool
-differs x y = not (x == y)
-
 abbrev pub words_stand : ℕ → ℕ → ℕ → List ℕ → Bool
-words_stand from i v xs = stands next_word differs from i v xs
+words_stand from i v xs = stands next_word nat_eq from i v xs
 
 abbrev pub floats_stand : ℕ → Float → List Float → Bool
-floats_stand i v xs = stands next_float ne 0 i v xs
+floats_stand i v xs = stands next_float eq 0 i v xs
 
 -- What the first place of each scratch slice holds: the float is 1.5
 abbrev pub junk_word : ℕ

@@ -1,6 +1,7 @@
 -- The parts of a refusal test's line. Assumes nothing.
 use Rattle.std.specs.Prelude.{ℕ, suc, ◌+◌, ◌%◌, ◌^◌, cond, List, [], ◌∷◌, ◌++◌, ◌==◌}
 use Rattle.cases.specs.declared.Cursor.{Cursor}
+use Rattle.cases.specs.Text.{fault_number}
 use Rattle.rules.specs.declared.Refusal.{Refusal}
 use Rattle.rules.specs.Refusals.{code_of}
 use Rattle.pages.specs.Page.{bytes, labelled}
@@ -41,4 +42,4 @@ words_text (w ∷ ws) = labelled (bytes " ") w ++ words_text ws
 
 -- How many cases were passed, and the reader's fault
 unfoldable pub end_text : ℕ → Cursor → List ℕ
-end_text passed c = labelled (bytes "cases: ") passed ++ labelled (bytes ", fault: ") c.fault ++ bytes "\n"
+end_text passed c = labelled (bytes "cases: ") passed ++ labelled (bytes ", fault: ") (fault_number c.fault) ++ bytes "\n"

@@ -1,15 +1,19 @@
 // The common ground of the refusal tests: a case's numbers and runs, junk in lent places, what became of it after a call, and the parts of a line.
 #![tactic(auto)]
 
-ghost use Rattle.std.specs.Prelude.{◌≡◌, ◌≤◌, length, take};
-ghost use Rattle.cases.specs.Text.{words_at, behind};
-ghost use Rattle.pages.specs.Page.{labelled, Puts};
+ghost use Rattle.std.specs.Prelude.{◌≡◌, ℕ, ◌≤◌, length, take, map, slice_set, IfOk};
+ghost use Rattle.cases.specs.Text.{words_at, first, Gives};
+ghost use Rattle.cases.specs.declared.Cursor.{Cursor};
+ghost use Rattle.refusals.specs.Cases.{cases_passed, Leads};
+ghost use Rattle.pages.specs.Page.{Puts};
 ghost use Rattle.refusals.specs.Texts.{before_place, next_column, refusal_text, graph_text, left_text, words_text, end_text};
-ghost use Rattle.refusals.specs.Junk.{rising, next_word, next_float, words_stand, floats_stand, junk_word, junk_float, scratch_stands, scratch_zero, left_of};
+ghost use Rattle.refusals.specs.Junk.{next_word, next_float, rising, stands, junk_word, junk_float, scratch_stands, scratch_zero, left_of};
 ghost use Rattle.refusals.specs.Given.{wide_of, bits_of, lanes_at, run_at, run_in};
 
-use cases::{Cursor, Size};
+use answers::Said;
+use cases::{Cursor, Read};
 use rules::Refusal;
+use std::io;
 
 // What the first place of each scratch slice holds before a call; each further place holds one more.
 const WORDS: u32 = 0xEF00_0000;
@@ -17,7 +21,7 @@ const WORDS: u32 = 0xEF00_0000;
 const FLOATS: f32 = 1.5;
 
 /// What became of lent places: they stand as they were, they are all zero, or neither.
-#[derive(Clone, Copy)]
+#[derive(Clone, Copy, Debug, PartialEq, Eq)]
 pub enum Left {
     Untouched,
     Zeroed,
@@ -25,95 +29,100 @@ pub enum Left {
 }
 
 /// A number of a case; the largest word stands for the largest.
+#[tactic(auto, unfolding(crate::specs::Given::wide_of))]
 pub fn wide(word: u32) -> usize
     ensures { result ≡ wide_of word }
 {
-    if word == 0xFFFF_FFFF {
-        return 18446744073709551615;
+    if word == u32::MAX {
+        usize::MAX
+    } else {
+        word as usize
     }
-    word as usize
 }
 
 /// The float of a case's bits: of NaNs 0x7FC00000 alone is read as one, and any other as 0.0.
+#[tactic(auto, unfolding(crate::specs::Given::bits_of))]
 pub fn float_of(bits: u32) -> f32
     ensures { result ≡ bits_of bits }
 {
     if bits == 0x7FC0_0000 {
-        let zero = 0.0f32;
-        return zero / zero;
+        f32::NAN
+    } else {
+        cases::float(bits)
     }
-    cases::float(bits)
+}
+
+// Reads a run, after its length, to the front of the slice: how many, and the place behind. A run that is longer is a fault.
+fn read_run_of<T: Copy, F: Fn(u32) -> T>(
+    text: &[u8],
+    c: Cursor,
+    out: &mut [T],
+    of: F,
+) -> Read<usize>
+    requires { F.IsAlwaysCallable of }
+    ensures value_in_bounds { result.value ≤ length out.new }
+    ensures value { result ≡ run_at (length out.old) text.now c }
+    ensures out_after { (made : ℕ → T) → Gives (F.post of) made
+        → out.new ≡ run_in (λ n t d. map made (words_at n t d)) text.now c out.old }
+{
+    let count = cases::read_size(text, c, out.len());
+    let value = count.value;
+    let cursor = cases::read_all(text, count.cursor, &mut out[..value], of);
+    Read { value, cursor }
 }
 
 /// Reads a run of words, after its length, to the front of the slice: how many, and the place behind. A run that is longer is a fault.
-pub fn read_run(text: &[u8], c: Cursor, out: &mut [u32]) -> Size
+pub fn read_run(text: &[u8], c: Cursor, out: &mut [u32]) -> Read<usize>
     ensures value_in_bounds { result.value ≤ length out.new }
     ensures value { result ≡ run_at (length out.old) text.now c }
     ensures out_after { out.new ≡ run_in words_at text.now c out.old }
 {
-    let count = cases::read_size(text, c, out.len());
-    let long = count.value;
-    let cursor = cases::read_words(text, count.cursor, &mut out[..long]);
-    Size {
-        value: long,
-        cursor: cursor,
-    }
-}
-
-// Fills the slice with the next numbers, as the bits of floats.
-fn lanes(text: &[u8], c: Cursor, out: &mut [f32]) -> Cursor
-    ensures out_after { out.new ≡ lanes_at (length out.old) text.now c }
-    ensures value { result ≡ behind (length out.old) text.now c }
-{
-    let mut i: usize = 0;
-    let mut cursor = c;
-    while i < out.len() {
-        let w = cases::read_word(text, cursor);
-        out[i] = float_of(w.value);
-        cursor = w.cursor;
-        i += 1;
-    }
-    cursor
+    read_run_of(text, c, out, |word| word)
 }
 
 /// Reads a run of floats by their bits, as `read_run` reads words.
-pub fn read_lanes(text: &[u8], c: Cursor, out: &mut [f32]) -> Size
+pub fn read_lanes(text: &[u8], c: Cursor, out: &mut [f32]) -> Read<usize>
     ensures value_in_bounds { result.value ≤ length out.new }
     ensures value { result ≡ run_at (length out.old) text.now c }
     ensures out_after { out.new ≡ run_in lanes_at text.now c out.old }
 {
-    let count = cases::read_size(text, c, out.len());
-    let long = count.value;
-    let cursor = lanes(text, count.cursor, &mut out[..long]);
-    Size {
-        value: long,
-        cursor: cursor,
+    read_run_of(text, c, out, float_of)
+}
+
+/// What lent places are filled with before a call: each place holds one more than the last.
+pub trait Rising: Copy + PartialEq {
+    ghost next: { Self → Self };
+
+    /// One more.
+    fn next(self) -> Self
+        ensures { result ≡ next self };
+}
+
+impl Rising for u32 {
+    ghost next = { next_word };
+
+    fn next(self) -> u32 {
+        self.wrapping_add(1)
     }
 }
 
-/// Fills lent words: `first`, and one more in each further place.
-pub fn fill_words(xs: &mut [u32], first: u32)
-    ensures { xs.new ≡ rising next_word first (length xs.old) }
-{
-    let mut i: usize = 0;
-    let mut v = first;
-    while i < xs.len() {
-        xs[i] = v;
-        v = std::num::wrapping_add_u32(v, 1);
-        i += 1;
+impl Rising for f32 {
+    ghost next = { next_float };
+
+    fn next(self) -> f32 {
+        self + 1.0
     }
 }
 
-/// Fills lent floats: `first`, and 1.0 more in each further place.
-pub fn fill_floats(xs: &mut [f32], first: f32)
-    ensures { xs.new ≡ rising next_float first (length xs.old) }
+/// Fills lent places: `first`, and one more in each further place.
+#[tactic(auto, using(crate::proofs::Laws::filling))]
+pub fn fill<T: Rising>(xs: &mut [T], first: T)
+    ensures { xs.new ≡ rising T.next first (length xs.old) }
 {
-    let mut i: usize = 0;
     let mut v = first;
-    while i < xs.len() {
+    for i in 0..xs.len() {
         xs[i] = v;
-        v = v + 1.0;
-        i += 1;
+        v = v.next();
     }
 }
 
@@ -122,152 +131,136 @@ pub fn fill_scratch(words: &mut [u32], floats: &mut [f32])
     ensures words_after { words.new ≡ rising next_word junk_word (length words.old) }
     ensures floats_after { floats.new ≡ rising next_float junk_float (length floats.old) }
 {
-    fill_words(words, WORDS);
-    fill_floats(floats, FLOATS);
+    fill(words, WORDS);
+    fill(floats, FLOATS);
 }
 
-/// Whether every place from `from` on is as `fill_words` left it.
-pub fn kept_words(xs: &[u32], from: usize, first: u32) -> bool
-    ensures { result ≡ words_stand from 0 first xs.now }
+/// Puts a number at a place; a place behind the end changes nothing.
+pub fn put_at<T: Copy>(xs: &mut [T], at: usize, x: T)
+    ensures { xs.new ≡ slice_set xs.old at x }
 {
-    let mut i: usize = 0;
-    let mut v = first;
-    while i < xs.len() {
-        if from <= i {
-            if xs[i] != v {
-                return false;
-            }
-        }
-        v = std::num::wrapping_add_u32(v, 1);
-        i += 1;
+    if at < xs.len() {
+        xs[at] = x;
     }
-    true
 }
 
-// Whether every place is as `fill_floats` left it: equal numbers that are not zero have equal bits, and a NaN equals none.
-fn kept_floats(xs: &[f32], first: f32) -> bool
-    ensures { result ≡ floats_stand 0 first xs.now }
+/// Whether every place from `from` on is as `fill` left it. Equal floats that are not zero have equal bits, and a NaN equals none.
+#[tactic(auto, using(crate::proofs::Laws::standing))]
+pub fn kept<T: Rising>(xs: &[T], from: usize, first: T) -> bool
+    ensures { result ≡ stands T.next T.eq from 0 first xs.now }
 {
-    let mut i: usize = 0;
     let mut v = first;
-    while i < xs.len() {
-        if xs[i] != v {
+    for i in 0..xs.len() {
+        if from <= i && xs[i] != v {
             return false;
         }
-        v = v + 1.0;
-        i += 1;
+        v = v.next();
     }
     true
 }
 
-fn kept(words: &[u32], floats: &[f32]) -> bool
+#[tactic(auto, unfolding(crate::specs::Junk::scratch_stands))]
+fn scratch_kept(words: &[u32], floats: &[f32]) -> bool
     ensures { result ≡ scratch_stands words.now floats.now }
 {
-    if kept_words(words, 0, WORDS) {
-        return kept_floats(floats, FLOATS);
-    }
-    false
+    kept(words, 0, WORDS) && kept(floats, 0, FLOATS)
 }
 
+#[tactic(auto, unfolding(crate::specs::Junk::scratch_zero))]
 fn zeroed(words: &[u32], floats: &[f32]) -> bool
     ensures { result ≡ scratch_zero words.now floats.now }
 {
-    if replays::all_words(words, 0, 0) {
-        return replays::all_zero(floats);
-    }
-    false
+    replays::all_words(words, 0, 0) && replays::all_zero(floats)
 }
 
 /// What became of both scratch slices after `fill_scratch` and a call.
+#[tactic(auto, unfolding(crate::specs::Junk::left_of))]
 pub fn scratch_left(words: &[u32], floats: &[f32]) -> Left
     ensures { result ≡ left_of words.now floats.now }
 {
-    if kept(words, floats) {
-        return Left::Untouched;
+    if scratch_kept(words, floats) {
+        Left::Untouched
+    } else if zeroed(words, floats) {
+        Left::Zeroed
+    } else {
+        Left::Written
     }
-    if zeroed(words, floats) {
-        return Left::Zeroed;
-    }
-    Left::Written
 }
 
 /// Puts a refusal's number and places on a page.
 pub fn put_refusal(page: &mut [u8], at: usize, r: Refusal) -> usize
     ensures { Puts at (refusal_text r) page.old result page.new }
 {
-    let said = answers::of_refusal(r);
+    let said = Said::from(r);
     let number = pages::put_number(page, at, b": ", said.refusal);
     let first = pages::put_number(page, number, b",", said.first);
     pages::put_number(page, first, b",", said.second)
 }
 
-fn put_place(page: &mut [u8], at: usize, i: usize, column: usize, node: u32) -> usize
-    ensures { Puts at (labelled (before_place i column) node) page.old result page.new }
+// What stands in front of a place of a graph.
+#[tactic(auto, unfolding(crate::specs::Texts::before_place, pages::specs::Page::bytes))]
+fn before_place(i: usize, column: usize) -> &'static [u8]
+    ensures { result.now ≡ before_place i column }
 {
     if i == 0 {
-        return pages::put_word(page, at, b": ", node);
+        b": "
+    } else if column == 0 {
+        b" / "
+    } else {
+        b","
     }
-    if column == 0 {
-        return pages::put_word(page, at, b" / ", node);
-    }
-    pages::put_word(page, at, b",", node)
 }
 
+#[tactic(auto, unfolding(crate::specs::Texts::next_column))]
 fn next_column(column: usize, index_size: usize) -> usize
     ensures { result ≡ next_column index_size column }
 {
-    let next = std::num::wrapping_add_usize(column, 1);
-    if next == index_size {
-        return 0;
-    }
-    next
+    let next = column.wrapping_add(1);
+    if next == index_size { 0 } else { next }
 }
 
 /// Puts a graph on a page as the settled squares have it: every place of a row, and row after row.
 pub fn put_graph(page: &mut [u8], at: usize, graph: &[u32], index_size: usize) -> usize
     ensures { Puts at (graph_text index_size graph.now) page.old result page.new }
 {
-    let mut i: usize = 0;
-    let mut column: usize = 0;
+    let mut column = 0;
     let mut place = pages::put(page, at, b"");
-    while i < graph.len() {
-        place = put_place(page, place, i, column, graph[i]);
+    for (i, &node) in graph.iter().enumerate() {
+        place = pages::put_word(page, place, before_place(i, column), node);
         column = next_column(column, index_size);
-        i += 1;
     }
     place
+}
+
+// What is said of lent places at the end of a line.
+#[tactic(auto, unfolding(crate::specs::Texts::left_text, pages::specs::Page::bytes))]
+fn text_of(left: Left) -> &'static [u8]
+    ensures { result.now ≡ left_text left }
+{
+    match left {
+        Left::Untouched => b", untouched\n",
+        Left::Zeroed => b", zeroed\n",
+        Left::Written => b", written\n",
+    }
 }
 
 /// Ends a line by what became of the lent places.
 pub fn put_left(page: &mut [u8], at: usize, l: Left) -> usize
     ensures { Puts at (left_text l) page.old result page.new }
 {
-    match l {
-        Left::Untouched => pages::put(page, at, b", untouched\n"),
-        Left::Zeroed => pages::put(page, at, b", zeroed\n"),
-        Left::Written => pages::put(page, at, b", written\n"),
-    }
-}
-
-// Puts words on a page, each behind a space.
-fn put_all(page: &mut [u8], at: usize, words: &[u32]) -> usize
-    ensures { Puts at (words_text words.now) page.old result page.new }
-{
-    let mut i: usize = 0;
-    let mut place = pages::put(page, at, b"");
-    while i < words.len() {
-        place = pages::put_word(page, place, b" ", words[i]);
-        i += 1;
-    }
-    place
+    pages::put(page, at, text_of(l))
 }
 
 /// Puts the first `count` words on a page, each behind a space.
 pub fn put_words(page: &mut [u8], at: usize, words: &[u32], count: usize) -> usize
     ensures { Puts at (words_text (take count words.now)) page.old result page.new }
 {
-    let long = cases::least(count, words.len());
-    put_all(page, at, &words[..long])
+    let mut place = pages::put(page, at, b"");
+    let first = &words[..count.min(words.len())];
+    for &word in first {
+        place = pages::put_word(page, place, b" ", word);
+    }
+    place
 }
 
 /// Puts on a page how many cases were passed, and the reader's fault.
@@ -275,6 +268,54 @@ pub fn put_end(page: &mut [u8], at: usize, passed: u32, c: Cursor) -> usize
     ensures { Puts at (end_text passed c) page.old result page.new }
 {
     let cases = pages::put_word(page, at, b"cases: ", passed);
-    let fault = pages::put_word(page, cases, b", fault: ", c.fault);
+    let fault = pages::put_word(page, cases, b", fault: ", cases::fault_number(c.fault));
     pages::put(page, fault, b"\n")
+}
+
+// The last line: how many cases there were, and the reader's fault.
+fn say_end(rt: &impl Print, passed: u32, c: Cursor) -> io::Result<()> {
+    let mut page = [0; 64];
+    let end = put_end(&mut page, 0, passed, c);
+    rt.write_all(pages::text(&page, end))
+}
+
+// Passes each case of a list to `one_case`. A proved loop has to end: it counts its turns, up to more cases than a list has.
+fn passed<F: Fn(Cursor, u32, u32) -> io::Result<Cursor>>(
+    text: &[u8],
+    one_case: F,
+) -> io::Result<Read<u32>>
+    requires { F.IsAlwaysCallable one_case }
+    ensures { (next : Cursor → Cursor) → Leads (F.post one_case) next
+        → IfOk result (λ all. all ≡ cases_passed next 65536 text.now 0 first) }
+{
+    let mut value: u32 = 0;
+    let mut cursor = cases::start();
+    for _turn in 0..65536usize {
+        let case = replays::next_case(text, cursor, value);
+        let Some(kind) = case.value else {
+            return Ok(Read {
+                value,
+                cursor: case.cursor,
+            });
+        };
+        value = value.wrapping_add(1);
+        cursor = one_case(case.cursor, value, kind)?;
+    }
+    Ok(Read { value, cursor })
+}
+
+/// Passes each case of a list to `one_case`, with the place of its numbers, its own number and its kind; says how many there were, and answers it with the place
+/// behind them.
+pub fn each_case<F: Fn(Cursor, u32, u32) -> io::Result<Cursor>>(
+    rt: &impl Print,
+    text: &[u8],
+    one_case: F,
+) -> io::Result<Read<u32>>
+    requires { F.IsAlwaysCallable one_case }
+    ensures { (next : Cursor → Cursor) → Leads (F.post one_case) next
+        → IfOk result (λ all. all ≡ cases_passed next 65536 text.now 0 first) }
+{
+    let all = passed(text, one_case)?;
+    say_end(rt, all.value, all.cursor)?;
+    Ok(all)
 }

@@ -3,10 +3,10 @@ use Rattle.std.specs.Prelude.{ℕ, List, slice_index}
 use Rattle.params.specs.declared.SsgParams.{SsgParams}
 use Rattle.params.specs.Params.{params}
 use Rattle.cases.specs.declared.Cursor.{Cursor}
+use Rattle.cases.specs.declared.Read.{Read}
 use Rattle.cases.specs.Text.{words_at, behind}
 use Rattle.refusals.specs.Given.{wide_of, bits_of, run_at}
 use Rattle.refusals_build.specs.declared.given.Call.{Call}
-use Rattle.refusals_build.specs.declared.given.Read.{Read}
 
 -- Behind the dimension and n: init_k, index_size, neighbor_neighbor_size, and the threshold by its bits
 unfoldable pub params_of : List ℕ → SsgParams
@@ -25,8 +25,8 @@ call_of xs =
       lanes = wide_of (slice_index xs 9);
     }
 
-unfoldable pub case_at : List ℕ → Cursor → Read
-case_at text c = record { call = call_of (words_at 10 text c); cursor = behind 10 text c }
+unfoldable pub case_at : List ℕ → Cursor → Read Call
+case_at text c = record { value = call_of (words_at 10 text c); cursor = behind 10 text c }
 
 -- The place behind a case, whose first lanes, at most 4,096, stand behind its numbers
 unfoldable pub behind_case : List ℕ → Cursor → Cursor

@@ -1,7 +1,6 @@
 -- The line of a call. Assumes nothing.
-use Rattle.std.specs.Prelude.{ℕ, ◌-◌, cond, not, List, [], ◌++◌, length, ◌==◌, nat_le, slice_index, Float}
-use Rattle.rules.specs.declared.Answer.{Answer}
-use Rattle.rules.specs.declared.Answer.TheVariants.{Done, Refused}
+use Rattle.std.specs.Prelude.{Ok, Err, ℕ, ◌-◌, cond, not, List, [], ◌++◌, length, ◌==◌, nat_le, slice_index, Float}
+use Rattle.rules.specs.Answers.{Answer}
 use Rattle.pages.specs.Page.{bytes, labelled}
 use Rattle.refusals.specs.Junk.{words_stand, left_of}
 use Rattle.refusals.specs.Texts.{refusal_text, left_text, graph_text}
@@ -20,5 +19,5 @@ printed_text size graph = cond (nat_le (length graph) 256) (graph_text size grap
 
 -- Behind the case's number: what was answered, and what became of the lent places
 unfoldable pub rest_text : Answer → ℕ → List ℕ → List ℕ → List Float → List ℕ
-rest_text Done size graph words floats = printed_text size graph ++ left_text (left_of words floats)
-rest_text (Refused r) size graph words floats = refusal_text r ++ left_text (refused_left graph words floats)
+rest_text (Ok _) size graph words floats = printed_text size graph ++ left_text (left_of words floats)
+rest_text (Err r) size graph words floats = refusal_text r ++ left_text (refused_left graph words floats)

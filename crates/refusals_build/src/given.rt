@@ -2,7 +2,7 @@
 ghost use Rattle.std.specs.Prelude.{◌≡◌};
 ghost use Rattle.refusals_build.specs.Given.{params_of, call_of, case_at};
 
-use cases::Cursor;
+use cases::{Cursor, Read};
 use params::SsgParams;
 
 /// The numbers of a call, and how long each slice is that it lends.
@@ -17,13 +17,7 @@ pub struct Call {
     pub lanes: usize,
 }
 
-/// A case of the list, and the place of its lanes.
-#[derive(Clone, Copy)]
-pub struct Read {
-    pub call: Call,
-    pub cursor: Cursor,
-}
-
+#[tactic(auto, unfolding(crate::specs::Given::params_of))]
 fn params_of(xs: [u32; 10]) -> SsgParams
     ensures { result ≡ params_of xs }
 {
@@ -34,6 +28,7 @@ fn params_of(xs: [u32; 10]) -> SsgParams
         .threshold(refusals::float_of(xs[5]))
 }
 
+#[tactic(auto, unfolding(crate::specs::Given::call_of))]
 fn call_of(xs: [u32; 10]) -> Call
     ensures { result ≡ call_of xs }
 {
@@ -50,13 +45,14 @@ fn call_of(xs: [u32; 10]) -> Call
 
 /// Reads the numbers of a case: dimension, n, the four parameters, and the lengths of the graph, of scratch's words and floats, and of the
 /// lanes.
-pub fn read_case(text: &[u8], c: Cursor) -> Read
+#[tactic(auto, unfolding(crate::specs::Given::case_at))]
+pub fn read_case(text: &[u8], c: Cursor) -> Read<Call>
     ensures { result ≡ case_at text.now c }
 {
-    let mut xs: [u32; 10] = [0; 10];
+    let mut xs = [0; 10];
     let cursor = cases::read_words(text, c, &mut xs);
     Read {
-        call: call_of(xs),
-        cursor: cursor,
+        value: call_of(xs),
+        cursor,
     }
 }

@@ -4,10 +4,8 @@ use mathlib.Core.Bool.{true, false}
 use mathlib.Core.List.{List}
 use Prim.Native.Nat.{ℕ}
 use lib.Ieee.{Float}
-use Rattle.rules.specs.declared.Answer.{Answer}
-use Rattle.rules.specs.declared.Answer.TheVariants.{Done, Refused}
-use Rattle.rules.specs.declared.IterateAnswer.{IterateAnswer}
-use Rattle.rules.specs.declared.IterateAnswer.TheVariants as answered
+use Rattle.std.specs.Prelude.{Ok, Err}
+use Rattle.rules.specs.Answers.{Answer, IterateAnswer}
 use Rattle.rules.specs.declared.Refusal.{Refusal}
 use Rattle.rules.specs.Refusals.{said_of}
 use Rattle.rules.specs.DescentCall.{IterateSaid, IterateOutcome, iterate_said}
@@ -17,11 +15,11 @@ use Rattle.iterate.specs.Iterate.{IteratedAll, iterate_left}
 use Rattle.refusals_descent.specs.declared.call.Call.{Call}
 use Rattle.refusals_descent.specs.Outcome.{uncounted, of_begin, lent_to, outcome_of, left_of}
 
-pub counted-done : (a : Answer) → a ≡ Done → iterate_said (answered.Iterated 0 0) ≡ uncounted (said_of a)
+pub counted-done : (a : Answer) → a ≡ (Ok tt) → iterate_said (Ok (record { cost = 0; new = 0 })) ≡ uncounted (said_of a)
 unfolding iterate_said said_of
 counted-done a e = ap (λ (b : Answer). uncounted (said_of b)) (sym e)
 
-pub counted-refused : (a : Answer) (r : Refusal) → a ≡ Refused r → iterate_said (answered.Refused r) ≡ uncounted (said_of a)
+pub counted-refused : (a : Answer) (r : Refusal) → a ≡ Err r → iterate_said (Err r) ≡ uncounted (said_of a)
 unfolding iterate_said said_of
 counted-refused a r e = ap (λ (b : Answer). uncounted (said_of b)) (sym e)
 

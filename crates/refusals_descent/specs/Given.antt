@@ -2,10 +2,10 @@
 use Rattle.std.specs.Prelude.{Bool, false, List, ℕ, zero, suc, ◌*◌, eqb, get_or, set, Float}
 use Rattle.rules.specs.Calls.{descent_words, taught_scratch}
 use Rattle.cases.specs.declared.Cursor.{Cursor}
+use Rattle.cases.specs.declared.Read.{Read}
 use Rattle.cases.specs.Text.{word_at, size_at, words_at, behind}
 use Rattle.refusals.specs.Given.{wide_of, bits_of}
 use Rattle.refusals_descent.specs.declared.call.Call.{Call}
-use Rattle.refusals_descent.specs.declared.given.Read.{Read}
 
 -- A call by its twelve numbers: 1 for a begin, 1 where its state is printed, the dimension, n, k, s, and the lengths of what is lent
 unfoldable pub call_of : List ℕ → Call
@@ -25,8 +25,8 @@ call_of xs =
       floats = wide_of (get_or xs 11 0);
     }
 
-unfoldable pub call_at : List ℕ → Cursor → Read
-call_at text c = record { call = call_of (words_at 12 text c); cursor = behind 12 text c }
+unfoldable pub call_at : List ℕ → Cursor → Read Call
+call_at text c = record { value = call_of (words_at 12 text c); cursor = behind 12 text c }
 
 -- 1,024 nodes in lists of one: a lane and two draws each, and as many places as a call asks for
 abbrev pub most_of : Bool → Call

@@ -1,25 +1,23 @@
 // A call of `begin` or `iterate` on lent places, and its line: what it answered, and what became of the places.
-ghost use Rattle.std.specs.Prelude.{◌≡◌, ◌≤◌, length, set, replicate};
+ghost use Rattle.std.specs.Prelude.{◌≡◌, ◌≤◌, length, slice_set, replicate};
 ghost use Rattle.rules.specs.Rows.{empty_distance};
 ghost use Rattle.rules.specs.Refusals.{said_of};
 ghost use Rattle.rules.specs.DescentCall.{iterate_said};
 ghost use Rattle.descent.specs.Descent as descents;
 ghost use Rattle.iterate.specs.Iterate.{iterate_left};
 ghost use Rattle.refusals_descent.specs.Left.{stands_as, left_by};
-ghost use Rattle.refusals_descent.specs.Given.{filled};
 ghost use Rattle.refusals_descent.specs.State.{with_context, formed_words, usual_words, usual_floats, is_usual, words_given, floats_given};
 ghost use Rattle.refusals_descent.specs.Outcome.{uncounted, outcome_of, left_of};
 
-use refusals::Left;
-use rules::{Answer, IterateAnswer};
+use crate::given;
+use refusals::{Left, put_at};
+use rules::{IterateCounts, Refusal};
 use std::io;
 
 // What the first places of a begin's state hold before the call; each further place holds one more.
 const WORDS: u32 = 0xCD00_0000;
 
 const FLOATS: f32 = 2.5;
-// The distance of an unfilled entry, 0x7F7FFFFF by its bits.
-const EMPTY: f32 = 340282346638528859811704183484516925440.0;
 
 /// Which entry is called, whether the state that it leaves is printed, the numbers, and how long each slice is that it lends.
 #[derive(Clone, Copy)]
@@ -38,51 +36,17 @@ pub struct Call {
     pub floats: usize,
 }
 
-// Fills the first places, as many as there are.
-fn fill_nodes(words: &mut [u32], count: usize, node: u32)
-    ensures { words.new ≡ filled 0 count node words.old }
-{
-    let mut i: usize = 0;
-    while i < count {
-        if words.len() <= i {
-            return;
-        }
-        words[i] = node;
-        i += 1;
-    }
-}
-
-fn fill_empty(floats: &mut [f32])
-    ensures { floats.new ≡ replicate (length floats.old) empty_distance }
-{
-    let mut i: usize = 0;
-    while i < floats.len() {
-        floats[i] = EMPTY;
-        i += 1;
-    }
-}
-
-// Writes a word, where there is such a place.
-fn put_at(words: &mut [u32], at: usize, word: u32)
-    ensures { words.new ≡ set words.old at word }
-{
-    if at < words.len() {
-        words[at] = word;
-    }
-}
-
 // Writes an entry of a list, where there is such a place.
 fn put_entry(words: &mut [u32], floats: &mut [f32], at: usize, node: u32, distance: f32)
-    ensures words_after { words.new ≡ set words.old at node }
-    ensures floats_after { floats.new ≡ set floats.old at distance }
+    ensures words_after { words.new ≡ slice_set words.old at node }
+    ensures floats_after { floats.new ≡ slice_set floats.old at distance }
 {
     put_at(words, at, node);
-    if at < floats.len() {
-        floats[at] = distance;
-    }
+    put_at(floats, at, distance);
 }
 
 // The context of node 0: a new and a reversed-new member.
+#[tactic(auto, unfolding(crate::specs::State::with_context))]
 fn put_context(words: &mut [u32], lists: usize, n: usize)
     requires { lists ≤ 4294967296 }
     ensures { words.new ≡ with_context lists n words.old }
@@ -96,6 +60,7 @@ fn put_context(words: &mut [u32], lists: usize, n: usize)
 }
 
 // Lists 0 and 3 of the usual state; the others stay unfilled.
+#[tactic(auto, unfolding(crate::specs::State::usual_words, crate::specs::State::usual_floats))]
 fn put_lists(words: &mut [u32], floats: &mut [f32])
     ensures words_after { words.new ≡ usual_words words.old }
     ensures floats_after { floats.new ≡ usual_floats floats.old }
@@ -105,38 +70,38 @@ fn put_lists(words: &mut [u32], floats: &mut [f32])
     put_entry(words, floats, 6, 2, 16.0);
 }
 
+#[tactic(auto, unfolding(crate::specs::State::formed_words))]
 fn write_formed(c: Call, words: &mut [u32], floats: &mut [f32])
     ensures words_after { words.new ≡ formed_words c.n c.k (length words.old) }
     ensures floats_after { floats.new ≡ replicate (length floats.old) empty_distance }
 {
-    buffers::zero_words(words);
-    fill_empty(floats);
+    words.fill(0);
+    floats.fill(rows::EMPTY);
     if c.n > 1024 {
         return;
     }
     let lists = cases::area(c.n, c.k);
-    fill_nodes(words, lists, c.n as u32);
+    given::fill_run(words, 0, lists, c.n as u32);
     put_context(words, lists, c.n);
 }
 
+#[tactic(auto, unfolding(crate::specs::State::is_usual))]
 fn is_usual(c: Call) -> bool
     ensures { result ≡ is_usual c }
 {
-    if c.n == 4 {
-        return c.k == 2;
-    }
-    false
+    c.n == 4 && c.k == 2
 }
 
 /// Writes the state that a call is lent: junk for a begin; for an iteration unfilled lists (the usual ones where it has four nodes and k
 /// 2), and node 0 with new 1 and reversed-new 2, or 0 where there is no node 2.
+#[tactic(auto, unfolding(crate::specs::State::words_given, crate::specs::State::floats_given))]
 pub fn write_state(c: Call, words: &mut [u32], floats: &mut [f32])
     ensures words_after { words.new ≡ words_given c (length words.old) }
     ensures floats_after { floats.new ≡ floats_given c (length floats.old) }
 {
     if c.begins {
-        refusals::fill_words(words, WORDS);
-        refusals::fill_floats(floats, FLOATS);
+        refusals::fill(words, WORDS);
+        refusals::fill(floats, FLOATS);
         return;
     }
     write_formed(c, words, floats);
@@ -145,20 +110,13 @@ pub fn write_state(c: Call, words: &mut [u32], floats: &mut [f32])
     }
 }
 
-fn put_place(page: &mut [u8], at: usize, i: usize, word: u32) -> usize {
-    if word == 0 {
-        return at;
-    }
-    let named = pages::put_number(page, at, b" ", i);
-    pages::put_word(page, named, b"=", word)
-}
-
 fn put_nonzero(page: &mut [u8], at: usize, words: &[u32]) -> usize {
-    let mut i: usize = 0;
     let mut place = at;
-    while i < words.len() {
-        place = put_place(page, place, i, words[i]);
-        i += 1;
+    for (i, &word) in words.iter().enumerate() {
+        if word != 0 {
+            let named = pages::put_number(page, place, b" ", i);
+            place = pages::put_word(page, named, b"=", word);
+        }
     }
     place
 }
@@ -168,9 +126,9 @@ fn put_state(page: &mut [u8], at: usize, c: Call, state_u: &[u32]) -> usize {
     if !c.shown {
         return at;
     }
-    let lists = cases::least(cases::area(c.n, c.k), state_u.len());
-    let behind = refusals::put_graph(page, at, &state_u[..lists], c.k);
-    put_nonzero(page, behind, &state_u[lists..])
+    let (lists, contexts) = state_u.split_at(cases::area(c.n, c.k).min(state_u.len()));
+    let behind = refusals::put_graph(page, at, lists, c.k);
+    put_nonzero(page, behind, contexts)
 }
 
 fn put_counts(page: &mut [u8], at: usize, c: Call, cost: usize, new: usize) -> usize {
@@ -185,40 +143,35 @@ fn put_answer(
     page: &mut [u8],
     at: usize,
     c: Call,
-    answer: IterateAnswer,
+    answer: Result<IterateCounts, Refusal>,
     state_u: &[u32],
 ) -> usize {
     match answer {
-        IterateAnswer::Iterated { cost, new } => {
+        Ok(IterateCounts { cost, new }) => {
             let behind = put_counts(page, at, c, cost, new);
             put_state(page, behind, c, state_u)
         }
-        IterateAnswer::Refused(r) => refusals::put_refusal(page, at, r),
+        Err(r) => refusals::put_refusal(page, at, r),
     }
 }
 
 // Whether the state stands as it was given.
+#[tactic(auto, unfolding(crate::specs::Left::stands_as))]
 fn stands(state_u: &[u32], state_f: &[f32], given_u: &[u32], given_f: &[f32]) -> bool
     ensures { result ≡ stands_as state_u.now state_f.now given_u.now given_f.now }
 {
-    if states::same_words(state_u, given_u) {
-        return states::same_floats(state_f, given_f);
-    }
-    false
+    states::same_words(state_u, given_u) && states::same_floats(state_f, given_f)
 }
 
 // What became of the lent places: a refusal leaves the state too.
-fn left(answer: IterateAnswer, stands: bool, words: &[u32], floats: &[f32]) -> Left
+#[tactic(auto, unfolding(crate::specs::Left::left_by))]
+fn left(answer: Result<IterateCounts, Refusal>, stands: bool, words: &[u32], floats: &[f32]) -> Left
     ensures { result ≡ left_by answer stands words.now floats.now }
 {
     match answer {
-        IterateAnswer::Iterated { cost: _, new: _ } => refusals::scratch_left(words, floats),
-        IterateAnswer::Refused(_) => {
-            if stands {
-                return refusals::scratch_left(words, floats);
-            }
-            Left::Written
-        }
+        Ok(_) => refusals::scratch_left(words, floats),
+        Err(_) if stands => refusals::scratch_left(words, floats),
+        Err(_) => Left::Written,
     }
 }
 
@@ -234,11 +187,11 @@ fn say(
     rt: &impl Print,
     number: u32,
     c: Call,
-    answer: IterateAnswer,
+    answer: Result<IterateCounts, Refusal>,
     state_u: &[u32],
     left: Left,
 ) -> io::Result<()> {
-    let mut page: [u8; 4096] = [0; 4096];
+    let mut page = [0; 4096];
     let call = put_number(&mut page, c, number);
     let behind = put_answer(&mut page, call, c, answer, state_u);
     let end = refusals::put_left(&mut page, behind, left);
@@ -246,12 +199,12 @@ fn say(
 }
 
 // The answer of a begin, which has no counts.
-fn uncounted(begun: Answer) -> IterateAnswer
+fn uncounted(begun: Result<(), Refusal>) -> Result<IterateCounts, Refusal>
     ensures { iterate_said result ≡ uncounted (said_of begun) }
 {
     match begun {
-        Answer::Done => IterateAnswer::Iterated { cost: 0, new: 0 },
-        Answer::Refused(r) => IterateAnswer::Refused(r),
+        Ok(()) => Ok(IterateCounts { cost: 0, new: 0 }),
+        Err(r) => Err(r),
     }
 }
 
@@ -263,7 +216,7 @@ fn asked(
     state_f: &mut [f32],
     words: &mut [u32],
     floats: &mut [f32],
-) -> IterateAnswer
+) -> Result<IterateCounts, Refusal>
     ensures { iterate_left result state_u.new state_f.new words.new floats.new ≡ outcome_of c lanes.now draws.now state_u.old state_f.old words.old floats.old }
 {
     if c.begins {

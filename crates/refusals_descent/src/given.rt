@@ -1,18 +1,11 @@
 // The calls of a list: their numbers, their lanes, and what is changed in their state.
-ghost use Rattle.std.specs.Prelude.{◌≡◌, set};
-ghost use Rattle.refusals.specs.Given.{bits_of};
+ghost use Rattle.std.specs.Prelude.{◌≡◌};
 ghost use Rattle.refusals_descent.specs.Given.{call_of, call_at, most_of, filled, words_harmed, floats_harmed, behind_changes};
 
 use crate::call::Call;
-use cases::Cursor;
+use cases::{Cursor, Read};
 
-/// A call of the list, and the place of its lanes.
-#[derive(Clone, Copy)]
-pub struct Read {
-    pub call: Call,
-    pub cursor: Cursor,
-}
-
+#[tactic(auto, unfolding(crate::specs::Given::call_of))]
 fn call_of(xs: [u32; 12]) -> Call
     ensures { result ≡ call_of xs }
 {
@@ -34,14 +27,15 @@ fn call_of(xs: [u32; 12]) -> Call
 
 /// Reads the numbers of a call: 1 for a begin and 0 for an iteration, 1 where its state is printed, dimension, n, k, s, and the lengths
 /// of the lanes, the draws, the state's words and floats, and scratch.
-pub fn read_call(text: &[u8], c: Cursor) -> Read
+#[tactic(auto, unfolding(crate::specs::Given::call_at))]
+pub fn read_call(text: &[u8], c: Cursor) -> Read<Call>
     ensures { result ≡ call_at text.now c }
 {
-    let mut xs: [u32; 12] = [0; 12];
+    let mut xs = [0; 12];
     let cursor = cases::read_words(text, c, &mut xs);
     Read {
-        call: call_of(xs),
-        cursor: cursor,
+        value: call_of(xs),
+        cursor,
     }
 }
 
@@ -50,7 +44,7 @@ pub fn most(begins: bool) -> Call
     ensures { result ≡ most_of begins }
 {
     Call {
-        begins: begins,
+        begins,
         shown: false,
         dimension: 1,
         n: 1024,
@@ -65,29 +59,13 @@ pub fn most(begins: bool) -> Call
     }
 }
 
-// Fills `count` words from `from` on, as far as they go.
-fn fill_words(words: &mut [u32], from: u32, count: u32, word: u32)
+/// Fills `count` words from `from` on, as far as they go.
+pub fn fill_run(words: &mut [u32], from: usize, count: usize, word: u32)
     ensures { words.new ≡ filled from count word words.old }
 {
-    let mut at = from as usize;
-    let mut left = count;
-    while left > 0 {
-        if words.len() <= at {
-            return;
-        }
+    let end = from.saturating_add(count).min(words.len());
+    for at in from..end {
         words[at] = word;
-        at += 1;
-        left -= 1;
-    }
-}
-
-// Writes a float, where there is such a place.
-fn put_float(floats: &mut [f32], at: u32, bits: u32)
-    ensures { floats.new ≡ set floats.old at (bits_of bits) }
-{
-    let place = at as usize;
-    if place < floats.len() {
-        floats[place] = refusals::float_of(bits);
     }
 }
 
@@ -97,15 +75,13 @@ pub fn harm_words(text: &[u8], c: Cursor, words: &mut [u32]) -> Cursor
     ensures value { result ≡ behind_changes text.now 3 c }
 {
     let count = cases::read_size(text, c, 8);
-    let mut left = count.value;
     let mut cursor = count.cursor;
-    while left > 0 {
+    for _done in 0..count.value {
         let from = cases::read_word(text, cursor);
         let long = cases::read_word(text, from.cursor);
         let word = cases::read_word(text, long.cursor);
-        fill_words(words, from.value, long.value, word.value);
+        fill_run(words, from.value as usize, long.value as usize, word.value);
         cursor = word.cursor;
-        left -= 1;
     }
     cursor
 }
@@ -116,14 +92,12 @@ pub fn harm_floats(text: &[u8], c: Cursor, floats: &mut [f32]) -> Cursor
     ensures value { result ≡ behind_changes text.now 2 c }
 {
     let count = cases::read_size(text, c, 8);
-    let mut left = count.value;
     let mut cursor = count.cursor;
-    while left > 0 {
+    for _done in 0..count.value {
         let at = cases::read_word(text, cursor);
         let bits = cases::read_word(text, at.cursor);
-        put_float(floats, at.value, bits.value);
+        refusals::put_at(floats, at.value as usize, refusals::float_of(bits.value));
         cursor = bits.cursor;
-        left -= 1;
     }
     cursor
 }

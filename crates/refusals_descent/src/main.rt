@@ -8,182 +8,95 @@ use std::io;
 mod call;
 mod given;
 
-// The call on the parts of given places and of our own that are as long as it says.
-fn cut(
-    rt: &impl Print,
-    number: u32,
-    c: Call,
-    lanes: &[f32],
-    draws: &[u32],
-    given_u: &[u32],
-    given_f: &[f32],
-    state_u: &mut [u32],
-    state_f: &mut [f32],
-    words: &mut [u32],
-    floats: &mut [f32],
-) -> io::Result<()> {
-    let lanes_long = cases::least(c.lanes, lanes.len());
-    let draws_long = cases::least(c.draws, draws.len());
-    let given_u_long = cases::least(c.state_u, given_u.len());
-    let given_f_long = cases::least(c.state_f, given_f.len());
-    let state_u_long = cases::least(c.state_u, state_u.len());
-    let state_f_long = cases::least(c.state_f, state_f.len());
-    let words_long = cases::least(c.words, words.len());
-    let floats_long = cases::least(c.floats, floats.len());
-    call::called(
-        rt,
-        number,
-        c,
-        &lanes[..lanes_long],
-        &draws[..draws_long],
-        &given_u[..given_u_long],
-        &given_f[..given_f_long],
-        &mut state_u[..state_u_long],
-        &mut state_f[..state_f_long],
-        &mut words[..words_long],
-        &mut floats[..floats_long],
-    )
-}
-
-// A call on given lanes and a state, whose twin is kept, and on scratch of our own; the draws are 6, 7, 8 and so on.
+// The call on the parts of given places and of our own that are as long as it says; the draws are 6, 7, 8 and so on.
 fn lend(
     rt: &impl Print,
     number: u32,
     c: Call,
-    lanes: &[f32],
-    given_u: &[u32],
-    given_f: &[f32],
-    state_u: &mut [u32],
-    state_f: &mut [f32],
+    lanes: &[f32; 256],
+    given_u: &[u32; 2098],
+    given_f: &[f32; 256],
 ) -> io::Result<()> {
-    let mut draws: [u32; 513] = [0; 513];
-    let mut words: [u32; 8192] = [0; 8192];
-    let mut floats: [f32; 8192] = [0.0; 8192];
-    refusals::fill_words(&mut draws, 6);
-    cut(
+    let mut state_u = *given_u;
+    let mut state_f = *given_f;
+    let mut draws = [0; 513];
+    let mut words = [0; 8192];
+    let mut floats = [0.0; 8192];
+    refusals::fill(&mut draws, 6);
+    call::called(
         rt,
         number,
         c,
-        lanes,
-        &draws,
-        given_u,
-        given_f,
-        state_u,
-        state_f,
-        &mut words,
-        &mut floats,
+        &lanes[..c.lanes.min(256)],
+        &draws[..c.draws.min(513)],
+        &given_u[..c.state_u.min(2098)],
+        &given_f[..c.state_f.min(256)],
+        &mut state_u[..c.state_u.min(2098)],
+        &mut state_f[..c.state_f.min(256)],
+        &mut words[..c.words.min(8192)],
+        &mut floats[..c.floats.min(8192)],
     )
 }
 
 fn one_call(rt: &impl Print, text: &[u8], c: Cursor, number: u32) -> io::Result<Cursor> {
-    let read = given::read_call(text, c);
-    let mut lanes: [f32; 256] = [0.0; 256];
-    let mut words: [u32; 2098] = [0; 2098];
-    let mut floats: [f32; 256] = [0.0; 256];
-    let a = refusals::read_lanes(text, read.cursor, &mut lanes);
-    call::write_state(read.call, &mut words, &mut floats);
+    let call = given::read_call(text, c);
+    let mut lanes = [0.0; 256];
+    let mut words = [0; 2098];
+    let mut floats = [0.0; 256];
+    let a = refusals::read_lanes(text, call.cursor, &mut lanes);
+    call::write_state(call.value, &mut words, &mut floats);
     let b = given::harm_words(text, a.cursor, &mut words);
     let behind = given::harm_floats(text, b, &mut floats);
-    let given_u = words;
-    let given_f = floats;
-    lend(
-        rt,
-        number,
-        read.call,
-        &lanes,
-        &given_u,
-        &given_f,
-        &mut words,
-        &mut floats,
-    )?;
+    lend(rt, number, call.value, &lanes, &words, &floats)?;
     Ok(behind)
 }
 
-// A proved loop has to end: it counts its turns down, from more calls than the list has.
+// A proved loop has to end: it counts its turns, up to more calls than the list has.
 fn every_call(rt: &impl Print, text: &[u8]) -> io::Result<Cursor> {
-    let mut left: u32 = 65536;
     let mut cursor = cases::start();
-    while left > 0 {
+    for _ in 0..65536 {
         let number = cases::read_word(text, cursor);
         cursor = number.cursor;
         if number.value == 0 {
-            return Ok(cursor);
+            break;
         }
-        let behind = one_call(rt, text, cursor, number.value)?;
-        cursor = behind;
-        left -= 1;
+        cursor = one_call(rt, text, cursor, number.value)?;
     }
     Ok(cursor)
 }
 
 // How many numbers were read, their sum, and the reader's fault.
 fn say_end(rt: &impl Print, c: Cursor) -> io::Result<()> {
-    let mut page: [u8; 64] = [0; 64];
-    let count = pages::put_word(&mut page, 0, b"numbers: ", c.count);
-    let sum = pages::put_word(&mut page, count, b", sum: ", c.sum);
-    let fault = pages::put_word(&mut page, sum, b", fault: ", c.fault);
-    let end = pages::put(&mut page, fault, b"\n");
-    rt.write_all(pages::text(&page, end))
+    let fault = cases::fault_number(c.fault);
+    println!(rt; "numbers: {}, sum: {}, fault: {fault}", c.count, c.sum)
 }
 
-// The state before is not kept: no row holds.
-fn called(
-    rt: &impl Print,
-    begins: bool,
-    lanes: &[f32],
-    draws: &[u32],
-    state_u: &mut [u32],
-    state_f: &mut [f32],
-    words: &mut [u32],
-    floats: &mut [f32],
-) -> io::Result<()> {
-    let none_u: [u32; 0] = [0; 0];
-    let none_f: [f32; 0] = [0.0; 0];
-    call::called(
-        rt,
-        1024,
-        given::most(begins),
-        lanes,
-        draws,
-        &none_u,
-        &none_f,
-        state_u,
-        state_f,
-        words,
-        floats,
-    )
-}
-
-// Nodes in a line. Draw j is j, so nodes 2i and 2i + 1 meet twice each, and end in each other's list.
+// Nodes in a line. Draw j is j, so nodes 2i and 2i + 1 meet twice each, and end in each other's list. The state before is not kept: no row holds.
 fn most_nodes(rt: &impl Print) -> io::Result<()> {
-    let mut lanes: [f32; 1024] = [0.0; 1024];
-    let mut draws: [u32; 2048] = [0; 2048];
-    let mut state_u: [u32; 300032] = [0; 300032];
-    let mut state_f: [f32; 1024] = [0.0; 1024];
-    let mut words: [u32; 528384] = [0; 528384];
-    let mut floats: [f32; 528384] = [0.0; 528384];
-    refusals::fill_floats(&mut lanes, 0.0);
-    refusals::fill_words(&mut draws, 0);
-    called(
-        rt,
-        true,
-        &lanes,
-        &draws,
-        &mut state_u,
-        &mut state_f,
-        &mut words,
-        &mut floats,
-    )?;
-    called(
-        rt,
-        false,
-        &lanes,
-        &draws,
-        &mut state_u,
-        &mut state_f,
-        &mut words,
-        &mut floats,
-    )
+    let mut lanes = [0.0; 1024];
+    let mut draws = [0; 2048];
+    let mut state_u = [0; 300032];
+    let mut state_f = [0.0; 1024];
+    let mut words = [0; 528384];
+    let mut floats = [0.0; 528384];
+    refusals::fill(&mut lanes, 0.0);
+    refusals::fill(&mut draws, 0);
+    for begins in [true, false] {
+        call::called(
+            rt,
+            1024,
+            given::most(begins),
+            &lanes,
+            &draws,
+            &[],
+            &[],
+            &mut state_u,
+            &mut state_f,
+            &mut words,
+            &mut floats,
+        )?;
+    }
+    Ok(())
 }
 
 fn main(rt: HostRuntime) -> io::Result<()> {

@@ -1,11 +1,12 @@
 -- What the list of cases says: a call's numbers, and two entries of its lists. Assumes nothing.
 use Rattle.std.specs.Prelude.{ℕ, List, slice_index}
 use Rattle.cases.specs.declared.Cursor.{Cursor}
+use Rattle.cases.specs.declared.Read.{Read}
 use Rattle.cases.specs.Text.{words_at, behind}
 use Rattle.refusals.specs.Given.{wide_of, bits_of, run_at}
 use Rattle.refusals_open.specs.declared.given.Call.{Call}
 use Rattle.refusals_open.specs.declared.given.Entry.{Entry}
-use Rattle.refusals_open.specs.declared.given.Read.{Read}
+use Rattle.refusals_open.specs.declared.given.Case.{Case}
 
 -- A call by the first nine numbers: dimension, n, k, and the lengths of the list nodes and distances, of the state's words and floats, and
 -- of scratch's
@@ -28,17 +29,16 @@ unfoldable pub entry_of : ℕ → ℕ → ℕ → Entry
 entry_of at node bits = record { at = wide_of at; node = node; dist = bits_of bits }
 
 -- The two entries stand behind the call's numbers.
-unfoldable pub case_of : List ℕ → Cursor → Read
-case_of xs c =
+unfoldable pub case_of : List ℕ → Case
+case_of xs =
     record {
       call = call_of xs;
       first = entry_of (slice_index xs 9) (slice_index xs 10) (slice_index xs 11);
       second = entry_of (slice_index xs 12) (slice_index xs 13) (slice_index xs 14);
-      cursor = c;
     }
 
-unfoldable pub case_at : List ℕ → Cursor → Read
-case_at text c = case_of (words_at 15 text c) (behind 15 text c)
+unfoldable pub case_at : List ℕ → Cursor → Read Case
+case_at text c = record { value = case_of (words_at 15 text c); cursor = behind 15 text c }
 
 -- The place behind a case, whose lanes, at most 1,025, and jobs, at most 65, stand behind its numbers
 unfoldable pub behind_case : List ℕ → Cursor → Cursor

@@ -2,7 +2,7 @@
 ghost use Rattle.std.specs.Prelude.{◌≡◌};
 ghost use Rattle.refusals_open.specs.Given.{call_of, entry_of, case_at};
 
-use cases::Cursor;
+use cases::{Cursor, Read};
 
 /// The numbers of a call, and how long the lists, the state and scratch are that it lends.
 #[derive(Clone, Copy)]
@@ -26,15 +26,15 @@ pub struct Entry {
     pub dist: f32,
 }
 
-/// A case of the list, and the place of its lanes.
+/// A case of the list: the call, and two entries of its lists.
 #[derive(Clone, Copy)]
-pub struct Read {
+pub struct Case {
     pub call: Call,
     pub first: Entry,
     pub second: Entry,
-    pub cursor: Cursor,
 }
 
+#[tactic(auto, unfolding(crate::specs::Given::call_of))]
 fn call_of(xs: [u32; 15]) -> Call
     ensures { result ≡ call_of xs }
 {
@@ -51,27 +51,29 @@ fn call_of(xs: [u32; 15]) -> Call
     }
 }
 
+#[tactic(auto, unfolding(crate::specs::Given::entry_of))]
 fn entry_of(at: u32, node: u32, bits: u32) -> Entry
     ensures { result ≡ entry_of at node bits }
 {
     Entry {
         at: refusals::wide(at),
-        node: node,
+        node,
         dist: refusals::float_of(bits),
     }
 }
 
 /// Reads the numbers of a case: dimension, n, k, the lengths of the list nodes and distances, of the state's words and floats and of
 /// scratch's, and two entries, of each its place, its node and the bits of its distance.
-pub fn read_case(text: &[u8], c: Cursor) -> Read
+#[tactic(auto, unfolding(crate::specs::Given::case_of, crate::specs::Given::case_at))]
+pub fn read_case(text: &[u8], c: Cursor) -> Read<Case>
     ensures { result ≡ case_at text.now c }
 {
-    let mut xs: [u32; 15] = [0; 15];
+    let mut xs = [0; 15];
     let cursor = cases::read_words(text, c, &mut xs);
-    Read {
+    let value = Case {
         call: call_of(xs),
         first: entry_of(xs[9], xs[10], xs[11]),
         second: entry_of(xs[12], xs[13], xs[14]),
-        cursor: cursor,
-    }
+    };
+    Read { value, cursor }
 }

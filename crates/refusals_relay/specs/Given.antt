@@ -1,11 +1,12 @@
 -- What the list of cases says: a call's numbers, and what is done to the state that it is lent. Assumes nothing.
 use Rattle.std.specs.Prelude.{ℕ, List, slice_index, slice_set, Float}
 use Rattle.cases.specs.declared.Cursor.{Cursor}
+use Rattle.cases.specs.declared.Read.{Read}
 use Rattle.cases.specs.Text.{words_at, behind}
 use Rattle.refusals.specs.Given.{wide_of, bits_of}
 use Rattle.refusals_relay.specs.declared.given.Lent.{Lent}
 use Rattle.refusals_relay.specs.declared.given.State.{State}
-use Rattle.refusals_relay.specs.declared.given.Read.{Read}
+use Rattle.refusals_relay.specs.declared.given.Case.{Case}
 
 -- A call by the first eight numbers: n, k, the job to move, and the lengths of the state's words and floats, of the list nodes and
 -- distances, and of the reports
@@ -37,10 +38,10 @@ state_of xs =
       float = bits_of (slice_index xs 15);
     }
 
-unfoldable pub case_at : List ℕ → Cursor → Read
+unfoldable pub case_at : List ℕ → Cursor → Read Case
 case_at text c =
     let xs = words_at 16 text c in
-    record { lent = lent_of xs; state = state_of xs; cursor = behind 16 text c }
+    record { value = record { lent = lent_of xs; state = state_of xs }; cursor = behind 16 text c }
 
 -- What is put into a state before the call
 unfoldable pub words_damaged : State → List ℕ → List ℕ

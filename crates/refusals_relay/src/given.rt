@@ -2,7 +2,7 @@
 ghost use Rattle.std.specs.Prelude.{◌≡◌};
 ghost use Rattle.refusals_relay.specs.Given.{lent_of, state_of, case_at};
 
-use cases::Cursor;
+use cases::{Cursor, Read};
 
 /// The numbers of a call, and how long each slice is that it lends.
 #[derive(Clone, Copy)]
@@ -31,14 +31,14 @@ pub struct State {
     pub float: f32,
 }
 
-/// A case of the list, and the place behind it.
+/// A case of the list.
 #[derive(Clone, Copy)]
-pub struct Read {
+pub struct Case {
     pub lent: Lent,
     pub state: State,
-    pub cursor: Cursor,
 }
 
+#[tactic(auto, unfolding(crate::specs::Given::lent_of))]
 fn lent_of(xs: [u32; 16]) -> Lent
     ensures { result ≡ lent_of xs }
 {
@@ -54,6 +54,7 @@ fn lent_of(xs: [u32; 16]) -> Lent
     }
 }
 
+#[tactic(auto, unfolding(crate::specs::Given::state_of))]
 fn state_of(xs: [u32; 16]) -> State
     ensures { result ≡ state_of xs }
 {
@@ -71,14 +72,15 @@ fn state_of(xs: [u32; 16]) -> State
 
 /// Reads the numbers of a case: n, k, the job to move, the lengths of the state's words and floats, of the list nodes and distances and of
 /// the reports; then the steps of job 0 and of each other job, two places with their words, and a place with its float's bits.
-pub fn read_case(text: &[u8], c: Cursor) -> Read
+#[tactic(auto, unfolding(crate::specs::Given::case_at))]
+pub fn read_case(text: &[u8], c: Cursor) -> Read<Case>
     ensures { result ≡ case_at text.now c }
 {
-    let mut xs: [u32; 16] = [0; 16];
+    let mut xs = [0; 16];
     let cursor = cases::read_words(text, c, &mut xs);
-    Read {
+    let value = Case {
         lent: lent_of(xs),
         state: state_of(xs),
-        cursor: cursor,
-    }
+    };
+    Read { value, cursor }
 }

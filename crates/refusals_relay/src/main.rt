@@ -9,101 +9,90 @@ ghost use Rattle.refusals_relay.specs.Left.{state_left, refused_left, done_left}
 ghost use Rattle.refusals_relay.specs.Texts.{moved_text, closed_text};
 
 use cases::Cursor;
-use given::{Lent, State};
+use given::{Case, Lent, State};
 use refusals::Left;
-use rules::Answer;
+use rules::Refusal;
 use std::io;
 
 mod given;
 
 // What the first place of the reports holds before a close; each further place holds one more.
 const REPORTS: u32 = 0xCD00_0000;
-// The distance of an unfilled entry, 0x7F7FFFFF by its bits.
-const EMPTY: f32 = 340282346638528859811704183484516925440.0;
 
 // Four jobs on the lanes and unfilled lists of square I: its own three, and one with u = v.
 fn opened(words: &mut [u32], floats: &mut [f32]) {
-    let lanes = [0.0f32, 1.0, 3.0, 7.0];
-    let jobs = [0u32, 1, 0, 3, 0, 2, 1, 1];
-    let nodes: [u32; 8] = [4; 8];
-    let dists: [f32; 8] = [EMPTY; 8];
-    let mut scratch_u: [u32; 6144] = [0; 6144];
-    let mut scratch_f: [f32; 6144] = [0.0; 6144];
-    relay_opening::open(
+    let _ = relay_opening::open(
         1,
         4,
-        &lanes,
+        &[0.0, 1.0, 3.0, 7.0],
         2,
-        &nodes,
-        &dists,
-        &jobs,
+        &[4; 8],
+        &[rows::EMPTY; 8],
+        &[0, 1, 0, 3, 0, 2, 1, 1],
         words,
         floats,
-        &mut scratch_u,
-        &mut scratch_f,
+        &mut [0; 6144],
+        &mut [0.0; 6144],
     );
 }
 
 fn advance(words: &mut [u32], floats: &mut [f32], job: usize, steps: usize) {
-    let mut left = steps;
-    while left > 0 {
-        relay_move::move_job(4, 2, job, words, floats);
-        left -= 1;
+    for _ in 0..steps {
+        let _ = relay_move::move_job(4, 2, job, words, floats);
     }
 }
 
-fn advance_all(s: State, words: &mut [u32], floats: &mut [f32]) {
-    advance(words, floats, 0, s.first);
-    advance(words, floats, 1, s.rest);
-    advance(words, floats, 2, s.rest);
-    advance(words, floats, 3, s.rest);
-}
-
+#[tactic(auto, unfolding(crate::specs::Given::words_damaged, crate::specs::Given::floats_damaged))]
 fn damage(s: State, words: &mut [u32], floats: &mut [f32])
     ensures words_after { words.new ≡ words_damaged s words.old }
     ensures floats_after { floats.new ≡ floats_damaged s floats.old }
 {
-    relays::put_word(words, s.at, s.word);
-    relays::put_word(words, s.also, s.other);
-    relays::put_float(floats, s.float_at, s.float);
-}
-
-fn make_in(s: State, words: &mut [u32], floats: &mut [f32]) {
-    opened(words, floats);
-    advance_all(s, words, floats);
-    damage(s, words, floats);
+    refusals::put_at(words, s.at, s.word);
+    refusals::put_at(words, s.also, s.other);
+    refusals::put_at(floats, s.float_at, s.float);
 }
 
 // The state in the front of two slices.
 fn make(s: State, words: &mut [u32], floats: &mut [f32]) {
-    let words_long = cases::least(1292, words.len());
-    let floats_long = cases::least(328, floats.len());
-    make_in(s, &mut words[..words_long], &mut floats[..floats_long]);
+    let words_long = words.len().min(1292);
+    let floats_long = floats.len().min(328);
+    let words = &mut words[..words_long];
+    let floats = &mut floats[..floats_long];
+    opened(words, floats);
+    advance(words, floats, 0, s.first);
+    advance(words, floats, 1, s.rest);
+    advance(words, floats, 2, s.rest);
+    advance(words, floats, 3, s.rest);
+    damage(s, words, floats);
 }
 
+#[tactic(auto, unfolding(crate::specs::Left::state_left))]
 fn same(words: &[u32], floats: &[f32], twin_words: &[u32], twin_floats: &[f32]) -> Left
     ensures { result ≡ state_left words.now floats.now twin_words.now twin_floats.now }
 {
-    if !states::same_words(words, twin_words) {
-        return Left::Written;
+    if states::same_words(words, twin_words) && states::same_floats(floats, twin_floats) {
+        Left::Untouched
+    } else {
+        Left::Written
     }
-    if !states::same_floats(floats, twin_floats) {
-        return Left::Written;
-    }
-    Left::Untouched
 }
 
-fn put_moved(page: &mut [u8], at: usize, answer: Answer) -> usize
+fn put_moved(page: &mut [u8], at: usize, answer: Result<(), Refusal>) -> usize
     ensures { Puts at (moved_text answer) page.old result page.new }
 {
     match answer {
-        Answer::Done => pages::put(page, at, b": moved"),
-        Answer::Refused(r) => refusals::put_refusal(page, at, r),
+        Ok(()) => pages::put(page, at, b": moved"),
+        Err(r) => refusals::put_refusal(page, at, r),
     }
 }
 
-fn told_move(rt: &impl Print, number: u32, answer: Answer, left: Left) -> io::Result<()> {
-    let mut page: [u8; 128] = [0; 128];
+fn told_move(
+    rt: &impl Print,
+    number: u32,
+    answer: Result<(), Refusal>,
+    left: Left,
+) -> io::Result<()> {
+    let mut page = [0; 128];
     let case = pages::put_word(&mut page, 0, b"case ", number);
     let call = pages::put(&mut page, case, b", move");
     let behind = put_moved(&mut page, call, answer);
@@ -111,92 +100,55 @@ fn told_move(rt: &impl Print, number: u32, answer: Answer, left: Left) -> io::Re
     rt.write_all(pages::text(&page, end))
 }
 
-// A move on a state, and its line. `twin_words` and `twin_floats` are as the state is.
-fn moved(
-    rt: &impl Print,
-    number: u32,
-    l: Lent,
-    words: &mut [u32],
-    floats: &mut [f32],
-    twin_words: &[u32],
-    twin_floats: &[f32],
-) -> io::Result<()> {
-    let answer = relay_move::move_job(l.n, l.k, l.job, words, floats);
-    told_move(
-        rt,
-        number,
-        answer,
-        same(words, floats, twin_words, twin_floats),
-    )
-}
-
-// A move on the parts that are as long as the call says, and on those of a twin of the state.
-fn move_cut(
-    rt: &impl Print,
-    number: u32,
-    l: Lent,
-    words: &mut [u32],
-    floats: &mut [f32],
-    twin_words: &[u32],
-    twin_floats: &[f32],
-) -> io::Result<()> {
-    let words_long = cases::least(l.words, words.len());
-    let floats_long = cases::least(l.floats, floats.len());
-    let twin_words_long = cases::least(l.words, twin_words.len());
-    let twin_floats_long = cases::least(l.floats, twin_floats.len());
-    moved(
-        rt,
-        number,
-        l,
-        &mut words[..words_long],
-        &mut floats[..floats_long],
-        &twin_words[..twin_words_long],
-        &twin_floats[..twin_floats_long],
-    )
-}
-
-// A move on a state, beside a twin of it.
-fn lend_move(rt: &impl Print, number: u32, l: Lent, s: State) -> io::Result<()> {
-    let mut words: [u32; 1293] = [0; 1293];
-    let mut floats: [f32; 329] = [0.0; 329];
+// A move on the parts of a state that are as long as the call says, beside a twin of it, and its line.
+fn moved(rt: &impl Print, number: u32, l: Lent, s: State) -> io::Result<()> {
+    let mut words = [0; 1293];
+    let mut floats = [0.0; 329];
     make(s, &mut words, &mut floats);
     let twin_words = words;
     let twin_floats = floats;
-    move_cut(
-        rt,
-        number,
-        l,
-        &mut words,
-        &mut floats,
-        &twin_words,
-        &twin_floats,
-    )
+    let words_long = l.words.min(1293);
+    let floats_long = l.floats.min(329);
+    let words = &mut words[..words_long];
+    let floats = &mut floats[..floats_long];
+    let answer = relay_move::move_job(l.n, l.k, l.job, words, floats);
+    let left = same(
+        words,
+        floats,
+        &twin_words[..words_long],
+        &twin_floats[..floats_long],
+    );
+    told_move(rt, number, answer, left)
 }
 
 // What became of all places where a close is refused.
+#[tactic(auto, unfolding(crate::specs::Left::refused_left))]
 fn left_refused(nodes: &[u32], dists: &[f32], reports: &[u32]) -> Left
     ensures { result ≡ refused_left nodes.now dists.now reports.now }
 {
-    if refusals::kept_words(reports, 0, REPORTS) {
-        return refusals::scratch_left(nodes, dists);
+    if refusals::kept(reports, 0, REPORTS) {
+        refusals::scratch_left(nodes, dists)
+    } else {
+        Left::Written
     }
-    Left::Written
 }
 
 // What became of the reports behind those of the four jobs.
+#[tactic(auto, unfolding(crate::specs::Left::done_left))]
 fn left_done(reports: &[u32]) -> Left
     ensures { result ≡ done_left reports.now }
 {
-    if refusals::kept_words(reports, 8, REPORTS) {
-        return Left::Untouched;
+    if refusals::kept(reports, 8, REPORTS) {
+        Left::Untouched
+    } else {
+        Left::Written
     }
-    Left::Written
 }
 
 fn put_closed(
     page: &mut [u8],
     at: usize,
-    answer: Answer,
+    answer: Result<(), Refusal>,
     nodes: &[u32],
     dists: &[f32],
     reports: &[u32],
@@ -204,12 +156,12 @@ fn put_closed(
     ensures { Puts at (closed_text answer nodes.now dists.now reports.now) page.old result page.new }
 {
     match answer {
-        Answer::Done => {
+        Ok(()) => {
             let named = pages::put(page, at, b": reports");
             let listed = refusals::put_words(page, named, reports, 8);
             refusals::put_left(page, listed, left_done(reports))
         }
-        Answer::Refused(r) => {
+        Err(r) => {
             let behind = refusals::put_refusal(page, at, r);
             refusals::put_left(page, behind, left_refused(nodes, dists, reports))
         }
@@ -219,119 +171,59 @@ fn put_closed(
 fn told_close(
     rt: &impl Print,
     number: u32,
-    answer: Answer,
+    answer: Result<(), Refusal>,
     nodes: &[u32],
     dists: &[f32],
     reports: &[u32],
 ) -> io::Result<()> {
-    let mut page: [u8; 256] = [0; 256];
+    let mut page = [0; 256];
     let case = pages::put_word(&mut page, 0, b"case ", number);
     let call = pages::put(&mut page, case, b", close");
     let end = put_closed(&mut page, call, answer, nodes, dists, reports);
     rt.write_all(pages::text(&page, end))
 }
 
-// A close of a state, and its line.
-fn closed(
-    rt: &impl Print,
-    number: u32,
-    l: Lent,
-    words: &[u32],
-    floats: &[f32],
-    nodes: &mut [u32],
-    dists: &mut [f32],
-    reports: &mut [u32],
-) -> io::Result<()> {
+// A close of the parts of a state that are as long as the call says, on junk in places of our own, and its line.
+fn closed(rt: &impl Print, number: u32, l: Lent, s: State) -> io::Result<()> {
+    let mut words = [0; 1293];
+    let mut floats = [0.0; 329];
+    make(s, &mut words, &mut floats);
+    let words = &words[..l.words.min(1293)];
+    let floats = &floats[..l.floats.min(329)];
+    let mut nodes = [0; 9];
+    let mut dists = [0.0; 9];
+    let mut reports = [0; 129];
+    let nodes = &mut nodes[..l.nodes.min(9)];
+    let dists = &mut dists[..l.dists.min(9)];
+    let reports = &mut reports[..l.reports.min(129)];
     refusals::fill_scratch(nodes, dists);
-    refusals::fill_words(reports, REPORTS);
+    refusals::fill(reports, REPORTS);
     let answer = relay_close::close(l.n, l.k, words, floats, nodes, dists, reports);
     told_close(rt, number, answer, nodes, dists, reports)
 }
 
-// A close of parts that are as long as the call says.
-fn close_cut(
-    rt: &impl Print,
-    number: u32,
-    l: Lent,
-    words: &[u32],
-    floats: &[f32],
-) -> io::Result<()> {
-    let mut nodes: [u32; 9] = [0; 9];
-    let mut dists: [f32; 9] = [0.0; 9];
-    let mut reports: [u32; 129] = [0; 129];
-    let words_long = cases::least(l.words, words.len());
-    let floats_long = cases::least(l.floats, floats.len());
-    let nodes_long = cases::least(l.nodes, nodes.len());
-    let dists_long = cases::least(l.dists, dists.len());
-    let reports_long = cases::least(l.reports, reports.len());
-    closed(
-        rt,
-        number,
-        l,
-        &words[..words_long],
-        &floats[..floats_long],
-        &mut nodes[..nodes_long],
-        &mut dists[..dists_long],
-        &mut reports[..reports_long],
-    )
-}
-
-// A close of a state.
-fn lend_close(rt: &impl Print, number: u32, l: Lent, s: State) -> io::Result<()> {
-    let mut words: [u32; 1293] = [0; 1293];
-    let mut floats: [f32; 329] = [0.0; 329];
-    make(s, &mut words, &mut floats);
-    close_cut(rt, number, l, &words, &floats)
-}
-
-// The calls of a case of some kind: 1 a move, 2 a close, else both.
-fn called(rt: &impl Print, number: u32, kind: u32, l: Lent, s: State) -> io::Result<()> {
-    if kind != 2 {
-        lend_move(rt, number, l, s)?;
-    }
-    if kind != 1 {
-        lend_close(rt, number, l, s)?;
-    }
-    Ok(())
-}
-
+// A case of some kind: 1 a move, 2 a close, else both.
 #[tactic(auto, unfolding(crate::specs::Given::case_at))]
 fn one_case(rt: &impl Print, text: &[u8], c: Cursor, number: u32, kind: u32) -> io::Result<Cursor>
     ensures { IfOk result (λ passed. passed ≡ behind 16 text.now c) }
 {
-    let read = given::read_case(text, c);
-    called(rt, number, kind, read.lent, read.state)?;
-    Ok(read.cursor)
-}
-
-// The last line: how many cases there were, and the reader's fault.
-fn say_end(rt: &impl Print, passed: u32, c: Cursor) -> io::Result<()> {
-    let mut page: [u8; 64] = [0; 64];
-    let end = refusals::put_end(&mut page, 0, passed, c);
-    rt.write_all(pages::text(&page, end))
-}
-
-// A proved loop has to end: it counts its turns down, from more cases than a list has.
-fn all_cases(rt: &impl Print, text: &[u8]) -> io::Result<()> {
-    let mut turns: u32 = 65536;
-    let mut passed: u32 = 0;
-    let mut cursor = cases::start();
-    while turns > 0 {
-        let case = replays::next_case(text, cursor, passed);
-        let behind = case.cursor;
-        if case.kind == 0 {
-            return say_end(rt, passed, behind);
-        }
-        passed = std::num::wrapping_add_u32(passed, 1);
-        let next = one_case(rt, text, behind, passed, case.kind)?;
-        cursor = next;
-        turns -= 1;
+    let case = given::read_case(text, c);
+    let Case { lent, state } = case.value;
+    if kind != 2 {
+        moved(rt, number, lent, state)?;
     }
-    Ok(())
+    if kind != 1 {
+        closed(rt, number, lent, state)?;
+    }
+    Ok(case.cursor)
 }
 
 fn main(rt: HostRuntime) -> io::Result<()> {
     let mut room = cases::room();
     let n = inputs::read_full(&mut rt.reader(), &mut room)?;
-    all_cases(&rt, &room[..n])
+    let text = &room[..n];
+    refusals::each_case(&rt, text, |c, number, kind| {
+        one_case(&rt, text, c, number, kind)
+    })?;
+    Ok(())
 }

@@ -2,7 +2,7 @@
 ghost use Rattle.std.specs.Prelude.{◌≡◌};
 ghost use Rattle.refusals_search.specs.Given.{call_of, case_at};
 
-use cases::Cursor;
+use cases::{Cursor, Read};
 
 /// The numbers of a call, and how long the result slices and scratch are that it lends.
 #[derive(Clone, Copy)]
@@ -17,13 +17,7 @@ pub struct Call {
     pub floats: usize,
 }
 
-/// A case of the list, and the place of its lanes.
-#[derive(Clone, Copy)]
-pub struct Read {
-    pub call: Call,
-    pub cursor: Cursor,
-}
-
+#[tactic(auto, unfolding(crate::specs::Given::call_of))]
 fn call_of(xs: [u32; 8]) -> Call
     ensures { result ≡ call_of xs }
 {
@@ -40,13 +34,14 @@ fn call_of(xs: [u32; 8]) -> Call
 }
 
 /// Reads the numbers of a case: dimension, n, index_size, k, and the lengths of the result nodes and bits, and of scratch's words and floats.
-pub fn read_case(text: &[u8], c: Cursor) -> Read
+#[tactic(auto, unfolding(crate::specs::Given::case_at))]
+pub fn read_case(text: &[u8], c: Cursor) -> Read<Call>
     ensures { result ≡ case_at text.now c }
 {
-    let mut xs: [u32; 8] = [0; 8];
+    let mut xs = [0; 8];
     let cursor = cases::read_words(text, c, &mut xs);
     Read {
-        call: call_of(xs),
-        cursor: cursor,
+        value: call_of(xs),
+        cursor,
     }
 }

@@ -1,5 +1,5 @@
 -- One turn and the end of each loop that fills a slice. Assumes nothing.
-use Rattle.std.proofs.Common.{◌≡◌, ℕ, suc, ◌+◌, ◌-◌, ◌%◌, ◌^◌, ◌<◌, ◌≤◌, List, [], ◌∷◌, ◌++◌, length, take, set, sym, refl, ap, ◌∙◌, append_assoc, append-nil, add-one, arith, length-set, take_all, take-suc-set, le-leb}
+use Rattle.std.proofs.Common.{◌≡◌, ℕ, suc, ◌+◌, ◌-◌, ◌<◌, ◌≤◌, List, [], ◌∷◌, ◌++◌, length, take, set, sym, refl, ap, ◌∙◌, append_assoc, append-nil, add-one, arith, length-set, take_all, take-suc-set, le-leb}
 use Rattle.rules.specs.Descent.{shuffle}
 use Rattle.relay_orders.specs.Order.{job_of, next, previous, ruled, after, drawn, below, shuffled}
 
@@ -32,13 +32,12 @@ module _ (kind count n : ℕ) where
 
   module _ (i up down : ℕ) where
     pub ruled_turn :
-        {up' down' x : ℕ} → up' ≡ next up → (down' + 1) % 2 ^ 32 ≡ down → down' < 2 ^ 32 → x ≡ job_of kind up down' count → i < n
-        → ruled kind count (n - i) up down ≡ x ∷ ruled kind count (n - (i + 1)) up' down'
+        {x : ℕ} → x ≡ job_of kind up (previous down) count → i < n
+        → ruled kind count (n - i) up down ≡ x ∷ ruled kind count (n - (i + 1)) (next up) (previous down)
     unfolding ruled
-    ruled_turn {up'} {down'} {x} e f small g h =
+    ruled_turn {x} g h =
         let less : n - i ≡ suc (n - (i + 1)) = omega arith in
-        let back : previous down ≡ down' = omega arith in
-        ap (λ (k : ℕ). ruled kind count k up down) less ∙ rw (back, ← e, ← g)
+        ap (λ (k : ℕ). ruled kind count k up down) less ∙ rw (← g)
 
     pub ruled-end : n ≤ i → ruled kind count (n - i) up down ≡ []
     unfolding ruled

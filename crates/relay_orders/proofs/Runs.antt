@@ -1,10 +1,10 @@
 -- The calls of a whole relay, from what each call's contract says. Assumes nothing.
+use Rattle.std.specs.Prelude.{Ok, Err}
 use Rattle.std.proofs.Common.{◌≡◌, ℕ, suc, ◌+◌, ◌<◌, ◌≤◌, min, List, length, get_or, take, drop, replicate, sym, refl, ap, ◌∙◌, add-one, drop_of_length-le, drop-cons}
 use lib.Ieee.{Float}
 use Rattle.rules.specs.declared.Refusal.{Refusal}
 use Rattle.rules.specs.declared.Refusal.TheVariants.{Dimension, Nodes, Lanes, Parameter, Threshold, Buffer, Root, Query, Job, Pair, Draws, State, Step}
-use Rattle.rules.specs.declared.Answer.{Answer}
-use Rattle.rules.specs.declared.Answer.TheVariants.{Done, Refused}
+use Rattle.rules.specs.Answers.{Answer}
 use Rattle.rules.specs.Refusals.{code_of, said_of}
 use Rattle.relays.specs.Places.{words_long, floats_long}
 use Rattle.relay_opening.specs.Opening.{Opened}
@@ -32,11 +32,11 @@ refused-one Draws = refl
 refused-one State = refl
 refused-one (Step job) = refl
 
-pub refused_none : (a : Answer) → a ≡ Done → 0 ≡ refused_in (said_of a)
+pub refused_none : (a : Answer) → a ≡ (Ok tt) → 0 ≡ refused_in (said_of a)
 unfolding refused_in said_of
 refused_none a e = ap (λ (b : Answer). refused_in (said_of b)) (sym e)
 
-pub refused-some : (a : Answer) (r : Refusal) → a ≡ Refused r → 1 ≡ refused_in (said_of a)
+pub refused-some : (a : Answer) (r : Refusal) → a ≡ Err r → 1 ≡ refused_in (said_of a)
 unfolding said_of
 refused-some a r e = sym (ap (λ (b : Answer). refused_in (said_of b)) e ∙ refused-one r)
 

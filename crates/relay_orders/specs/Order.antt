@@ -1,6 +1,7 @@
 -- Seeded numbers, and orders of a relay's moves: each job eight times. Assumes nothing.
-use Rattle.std.specs.Prelude.{ℕ, zero, suc, ◌+◌, ◌*◌, ◌/◌, ◌%◌, ◌^◌, cond, List, [], ◌∷◌, length, ◌==◌, from_bits, nat_le, Float}
+use Rattle.std.specs.Prelude.{◌≡◌, ℕ, zero, suc, ◌+◌, ◌*◌, ◌/◌, ◌%◌, ◌^◌, ◌<◌, cond, List, [], ◌∷◌, length, ◌==◌, pos, nat_le, Float}
 use Rattle.std.specs.Float.{binary32}
+use Rattle.std.specs.Float.Ieee.{of_int}
 use Rattle.rules.specs.Descent.{shuffle}
 
 -- The remainder, and 0 where there are no jobs
@@ -44,20 +45,13 @@ drawn of (suc n) x = of (after x) ∷ drawn of n (after x)
 abbrev pub below : ℕ → ℕ → ℕ
 below limit x = remainder (x / 65536) limit
 
--- A whole number from 0 to 7, by its bits
-unfoldable pub lane_of : ℕ → Float
-lane_of x =
-    from_bits binary32
-    (cond (x == 0) 0
-    (cond (x == 1) 0x3F800000
-    (cond (x == 2) 0x40000000
-    (cond (x == 3) 0x40400000
-    (cond (x == 4) 0x40800000
-    (cond (x == 5) 0x40A00000
-    (cond (x == 6) 0x40C00000 0x40E00000)))))))
-
+-- A whole number from 0 to 7: the three highest bits
 abbrev pub lane_from : ℕ → Float
-lane_from x = lane_of (x / 536870912)
+lane_from x = of_int binary32 (pos (x / 536870912))
+
+-- What is given for a number is what `made` says.
+abbrev pub Gives : {A : Type 0} → (ℕ → A → Type 0) → (ℕ → A) → Type 0
+Gives {A} Post made = (x : ℕ) (r : A) → x < 2 ^ 32 → Post x r → r ≡ made x
 
 -- Shuffled by 512 draws, if it is no longer than that
 unfoldable pub shuffled : ℕ → List ℕ → List ℕ

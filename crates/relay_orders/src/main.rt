@@ -1,9 +1,9 @@
 // Square I in three orders of its moves, and 44 orders of each of nine sets of jobs: every order of one set must end in the same lists.
 #![tactic(auto)]
 
-use sets::Game;
+use run::Relay;
 use std::io;
-use tally::{EMPTY, Lists, Outcome, Tally};
+use tally::{Lists, Outcome, Tally};
 
 mod order;
 mod run;
@@ -15,211 +15,143 @@ const ORDERS: u32 = 44;
 // The length of a list of square I.
 const SQUARE_K: usize = 2;
 
-// A relay in an order that is filled in first: jobs have two words and eight moves each.
-fn in_order(
-    n: usize,
-    k: usize,
-    lanes: &[f32],
-    jobs: &[u32],
-    kind: u32,
-    order: &mut [u32],
-    nodes: &mut [u32],
-    dists: &mut [f32],
-) -> u32 {
-    let mut reports: [u32; 128] = [0; 128];
-    order::fill(order, kind, jobs.len() / 2);
-    run::whole(n, k, lanes, jobs, order, nodes, dists, &mut reports)
-}
-
-fn by_kind(
-    n: usize,
-    k: usize,
-    lanes: &[f32],
-    jobs: &[u32],
-    kind: u32,
-    nodes: &mut [u32],
-    dists: &mut [f32],
-) -> u32 {
-    let mut order: [u32; 512] = [0; 512];
-    let long = cases::least(cases::area(4, jobs.len()), 512);
-    in_order(n, k, lanes, jobs, kind, &mut order[..long], nodes, dists)
-}
-
-// A relay on the lists in the front of two slices.
-fn in_front(
-    n: usize,
-    k: usize,
-    lanes: &[f32],
-    jobs: &[u32],
-    kind: u32,
-    nodes: &mut [u32],
-    dists: &mut [f32],
-) -> u32 {
-    let nodes_long = cases::least(cases::area(n, k), nodes.len());
-    let dists_long = cases::least(cases::area(n, k), dists.len());
-    by_kind(
-        n,
-        k,
-        lanes,
-        jobs,
-        kind,
-        &mut nodes[..nodes_long],
-        &mut dists[..dists_long],
-    )
-}
-
-// The lists that an order ends in.
-fn ended(n: usize, k: usize, lanes: &[f32], jobs: &[u32], l: Lists, kind: u32) -> Outcome {
-    let mut nodes = l.nodes;
-    let mut dists = l.dists;
-    let refused = in_front(n, k, lanes, jobs, kind, &mut nodes, &mut dists);
+// The lists that an order ends in: jobs have two words and eight moves each.
+fn ended(r: Relay, given: Lists, kind: u32) -> Outcome {
+    let Lists {
+        mut nodes,
+        mut dists,
+    } = given;
+    let mut order = [0; 512];
+    let order = &mut order[..cases::area(4, r.jobs.len()).min(512)];
+    order::fill(order, kind, r.jobs.len() / 2);
+    let long = cases::area(r.n, r.k).min(24);
+    let refused = run::whole(
+        r,
+        order,
+        &mut nodes[..long],
+        &mut dists[..long],
+        &mut [0; 128],
+    );
     Outcome {
-        lists: Lists {
-            nodes: nodes,
-            dists: dists,
-        },
-        refused: refused,
+        lists: Lists { nodes, dists },
+        refused,
     }
 }
 
-// One set more, whose first order ended in `first`: all its orders.
-fn with_set(
-    n: usize,
-    k: usize,
-    lanes: &[f32],
-    jobs: &[u32],
-    given: Lists,
-    first: Outcome,
-    t: Tally,
-) -> Tally {
-    let lists = first.lists;
-    let mut kind: u32 = 0;
+// One set more, on given lists: all its orders beside the first.
+fn with_set(r: Relay, given: Lists, t: Tally) -> Tally {
+    let first = ended(r, given, 0).lists;
     let mut so_far = tally::with_set(t);
-    while kind < ORDERS {
-        let e = ended(n, k, lanes, jobs, given, kind);
-        let next = tally::with_order(so_far, lists, e);
-        so_far = next;
-        kind += 1;
+    for kind in 0..ORDERS {
+        so_far = tally::with_order(so_far, first, ended(r, given, kind));
     }
     so_far
 }
 
-fn say_word(rt: &impl Print, label: &[u8], word: u32) -> io::Result<()> {
-    rt.write_all(label)?;
-    rt.print(word)
-}
-
 fn put_lists(rt: &impl Print, nodes: &[u32], dists: &[f32]) -> io::Result<()> {
-    let mut i: usize = 0;
-    while i < nodes.len() {
-        if i >= dists.len() {
-            return Ok(());
-        }
-        say_word(rt, b" ", nodes[i])?;
-        say_word(rt, b" at ", relays::bits_of(dists[i]))?;
-        i += 1;
+    for (node, dist) in nodes.iter().zip(dists) {
+        print!(rt; " {node} at {}", relays::bits_of(*dist))?;
     }
     Ok(())
 }
 
-// The reports of three jobs.
-fn say_reports(rt: &impl Print, reports: &[u32]) -> io::Result<()> {
-    let mut page: [u8; 128] = [0; 128];
-    let named = pages::put(&mut page, 0, b", reports");
-    let listed = refusals::put_words(&mut page, named, reports, 6);
-    let end = pages::put(&mut page, listed, b"\n");
-    rt.write_all(pages::text(&page, end))
+fn put_reports(rt: &impl Print, reports: &[u32]) -> io::Result<()> {
+    for report in reports {
+        print!(rt; " {report}")?;
+    }
+    Ok(())
 }
 
-// Square I in an order of its 24 moves: the lists, two entries a node, and the reports.
-fn square(rt: &impl Print, name: &[u8], order: &[u32]) -> io::Result<()> {
+// Square I in an order of its 24 moves: the lists, two entries a node, and the reports of its three jobs.
+fn square(rt: &impl Print, name: &str, order: &[u32]) -> io::Result<()> {
     let lanes = sets::square_lanes();
     let jobs = sets::square_jobs();
-    let mut nodes: [u32; 8] = [4; 8];
-    let mut dists: [f32; 8] = [EMPTY; 8];
-    let mut reports: [u32; 128] = [0; 128];
-    let refused = run::whole(
-        lanes.len(),
-        SQUARE_K,
-        &lanes,
-        &jobs,
-        order,
-        &mut nodes,
-        &mut dists,
-        &mut reports,
-    );
-    rt.write_all(name)?;
+    let mut nodes = [4; 8];
+    let mut dists = [rows::EMPTY; 8];
+    let mut reports = [0; 128];
+    let r = Relay {
+        n: 4,
+        k: SQUARE_K,
+        lanes: &lanes,
+        jobs: &jobs,
+    };
+    let refused = run::whole(r, order, &mut nodes, &mut dists, &mut reports);
+    print!(rt; "{name}")?;
     put_lists(rt, &nodes, &dists)?;
-    say_reports(rt, &reports)?;
+    print!(rt; ", reports")?;
+    put_reports(rt, &reports[..6])?;
+    println!(rt)?;
     if refused != 0 {
-        say_word(rt, b"refused: ", refused)?;
+        print!(rt; "refused: {refused}")?;
     }
     Ok(())
 }
 
 fn squares(rt: &impl Print) -> io::Result<()> {
-    let mut one: [u32; 24] = [0; 24];
+    let mut one = [0; 24];
     order::fill(&mut one, 0, 3);
-    square(rt, b"I, one job at a time:", &one)?;
-    let mut round: [u32; 24] = [0; 24];
+    square(rt, "I, one job at a time:", &one)?;
+    let mut round = [0; 24];
     order::fill(&mut round, 1, 3);
-    square(rt, b"I, a step of each in turn:", &round)?;
+    square(rt, "I, a step of each in turn:", &round)?;
     let last = [
-        0u32, 0, 0, 0, 0, 0, 0, 0, 2, 2, 2, 2, 2, 2, 2, 2, 1, 1, 1, 1, 1, 1, 1, 1,
+        0, 0, 0, 0, 0, 0, 0, 0, 2, 2, 2, 2, 2, 2, 2, 2, 1, 1, 1, 1, 1, 1, 1, 1,
     ];
-    square(rt, b"I, the second job last:", &last)
-}
-
-// One set more, on given lists.
-fn on_lists(n: usize, k: usize, lanes: &[f32], jobs: &[u32], given: Lists, t: Tally) -> Tally {
-    let first = ended(n, k, lanes, jobs, given, 0);
-    with_set(n, k, lanes, jobs, given, first, t)
+    square(rt, "I, the second job last:", &last)
 }
 
 // Square I.
 fn with_square(t: Tally) -> Tally {
     let lanes = sets::square_lanes();
     let jobs = sets::square_jobs();
-    on_lists(lanes.len(), SQUARE_K, &lanes, &jobs, tally::unfilled(4), t)
-}
-
-// Twelve jobs on the lists that others left.
-fn with_more(g: Game, lanes: &[f32], left: Outcome, t: Tally) -> Tally {
-    let mut jobs: [u32; 24] = [0; 24];
-    order::fill_drawn(&mut jobs, g.further, g.n);
-    on_lists(lanes.len(), g.k, lanes, &jobs, left.lists, t)
+    let r = Relay {
+        n: 4,
+        k: SQUARE_K,
+        lanes: &lanes,
+        jobs: &jobs,
+    };
+    with_set(r, tally::unfilled(4), t)
 }
 
 // A drawn game: twelve jobs on unfilled lists, and twelve on what these left.
-fn with_jobs(g: Game, lanes: &[f32], t: Tally) -> Tally {
-    let mut jobs: [u32; 24] = [0; 24];
-    order::fill_drawn(&mut jobs, g.first, g.n);
-    let half = on_lists(lanes.len(), g.k, lanes, &jobs, tally::unfilled(g.n), t);
-    let left = ended(lanes.len(), g.k, lanes, &jobs, tally::unfilled(g.n), 0);
-    with_more(g, lanes, left, half)
-}
-
 fn with_game(number: u32, t: Tally) -> Tally {
     let g = sets::drawn(number);
-    let mut lanes: [f32; 6] = [0.0; 6];
+    let mut lanes = [0.0; 6];
+    let mut jobs = [0; 24];
+    let mut further = [0; 24];
     order::fill_lanes(&mut lanes, g.lanes);
-    with_jobs(g, &lanes, t)
+    order::fill_drawn(&mut jobs, g.first, g.n);
+    order::fill_drawn(&mut further, g.further, g.n);
+    let unfilled = tally::unfilled(g.n);
+    let r = Relay {
+        n: 6,
+        k: g.k,
+        lanes: &lanes,
+        jobs: &jobs,
+    };
+    let half = with_set(r, unfilled, t);
+    let left = ended(r, unfilled, 0).lists;
+    with_set(
+        Relay {
+            jobs: &further,
+            ..r
+        },
+        left,
+        half,
+    )
 }
 
 fn all_sets() -> Tally {
-    let a = with_square(tally::none());
-    let b = with_game(1, a);
-    let c = with_game(2, b);
-    let d = with_game(3, c);
-    with_game(4, d)
+    let mut t = with_square(Tally::default());
+    for number in 1..=4 {
+        t = with_game(number, t);
+    }
+    t
 }
 
 fn main(rt: HostRuntime) -> io::Result<()> {
     squares(&rt)?;
     let t = all_sets();
-    say_word(&rt, b"sets: ", t.sets)?;
-    say_word(&rt, b"\norders: ", t.orders)?;
-    say_word(&rt, b"\nthat differ: ", t.differ)?;
-    say_word(&rt, b"\ncalls refused: ", t.refused)?;
-    rt.write_all(b"\n")
+    println!(rt; "sets: {}\norders: {}", t.sets, t.orders)?;
+    println!(rt; "that differ: {}\ncalls refused: {}", t.differ, t.refused)
 }

@@ -3,42 +3,42 @@ ghost use Rattle.std.specs.Prelude.{◌≡◌};
 ghost use Rattle.rules.specs.Refusals.{said_of};
 ghost use Rattle.relay_orders.specs.Run.{refused_in, ran, relayed, opened_of, moved_by, relayed_in, whole_of};
 
-use rules::Answer;
+use rules::Refusal;
+
+/// A relay of lanes of one dimension: its nodes, the length of its lists, and its jobs.
+#[derive(Clone, Copy)]
+pub struct Relay<'a> {
+    pub n: usize,
+    pub k: usize,
+    pub lanes: &'a [f32],
+    pub jobs: &'a [u32],
+}
 
 // What lent places hold before a call.
 const JUNK: u32 = 0xCDCD_CDCD;
 
-fn refused(answer: Answer) -> u32
+fn refused(answer: Result<(), Refusal>) -> u32
     ensures { result ≡ refused_in (said_of answer) }
 {
     match answer {
-        Answer::Done => 0,
-        Answer::Refused(_) => 1,
+        Ok(()) => 0,
+        Err(_) => 1,
     }
 }
 
-fn opened(
-    n: usize,
-    k: usize,
-    lanes: &[f32],
-    nodes: &[u32],
-    dists: &[f32],
-    jobs: &[u32],
-    words: &mut [u32],
-    floats: &mut [f32],
-) -> u32
-    ensures { ran words.new floats.new result ≡ opened_of n k lanes.now nodes.now dists.now jobs.now words.old floats.old }
+fn opened(r: Relay, nodes: &[u32], dists: &[f32], words: &mut [u32], floats: &mut [f32]) -> u32
+    ensures { ran words.new floats.new result ≡ opened_of r.entry.n r.entry.k r.entry.lanes.now nodes.now dists.now r.entry.jobs.now words.old floats.old }
 {
-    let mut scratch_u: [u32; 8192] = [JUNK; 8192];
-    let mut scratch_f: [f32; 8192] = [1.5; 8192];
+    let mut scratch_u = [JUNK; 8192];
+    let mut scratch_f = [1.5; 8192];
     let answer = relay_opening::open(
         1,
-        n,
-        lanes,
-        k,
+        r.n,
+        r.lanes,
+        r.k,
         nodes,
         dists,
-        jobs,
+        r.jobs,
         words,
         floats,
         &mut scratch_u,
@@ -50,21 +50,16 @@ fn opened(
 fn moved(n: usize, k: usize, order: &[u32], words: &mut [u32], floats: &mut [f32]) -> u32
     ensures { ran words.new floats.new result ≡ moved_by n k order.now (ran words.old floats.old 0) }
 {
-    let mut i: usize = 0;
     let mut count: u32 = 0;
-    while i < order.len() {
-        let answer = relay_move::move_job(n, k, relays::index(order[i]), words, floats);
-        count = std::num::wrapping_add_u32(count, refused(answer));
-        i += 1;
+    for &job in order {
+        let answer = relay_move::move_job(n, k, relays::index(job), words, floats);
+        count = count.wrapping_add(refused(answer));
     }
     count
 }
 
 fn in_state(
-    n: usize,
-    k: usize,
-    lanes: &[f32],
-    jobs: &[u32],
+    r: Relay,
     order: &[u32],
     words: &mut [u32],
     floats: &mut [f32],
@@ -72,41 +67,27 @@ fn in_state(
     dists: &mut [f32],
     reports: &mut [u32],
 ) -> u32
-    ensures { relayed result nodes.new dists.new reports.new ≡ relayed_in n k words.old floats.old lanes.now jobs.now order.now nodes.old dists.old reports.old }
+    ensures { relayed result nodes.new dists.new reports.new ≡ relayed_in r.entry.n r.entry.k words.old floats.old r.entry.lanes.now r.entry.jobs.now order.now nodes.old dists.old reports.old }
 {
-    let a = opened(n, k, lanes, nodes, dists, jobs, words, floats);
-    let b = moved(n, k, order, words, floats);
-    let c = refused(relay_close::close(n, k, words, floats, nodes, dists, reports));
-    std::num::wrapping_add_u32(a, std::num::wrapping_add_u32(b, c))
+    let a = opened(r, nodes, dists, words, floats);
+    let b = moved(r.n, r.k, order, words, floats);
+    let c = refused(relay_close::close(r.n, r.k, words, floats, nodes, dists, reports));
+    a.wrapping_add(b.wrapping_add(c))
 }
 
-/// Opens a relay of lanes of one dimension, moves it in the order given and closes it. Returns how many calls were refused.
+/// Opens a relay, moves it in the order given and closes it. Returns how many calls were refused.
 pub fn whole(
-    n: usize,
-    k: usize,
-    lanes: &[f32],
-    jobs: &[u32],
+    r: Relay,
     order: &[u32],
     nodes: &mut [u32],
     dists: &mut [f32],
     reports: &mut [u32],
 ) -> u32
-    ensures { relayed result nodes.new dists.new reports.new ≡ whole_of n k lanes.now jobs.now order.now nodes.old dists.old reports.old }
+    ensures { relayed result nodes.new dists.new reports.new ≡ whole_of r.entry.n r.entry.k r.entry.lanes.now r.entry.jobs.now order.now nodes.old dists.old reports.old }
 {
-    let mut words: [u32; 2048] = [JUNK; 2048];
-    let mut floats: [f32; 1024] = [1.5; 1024];
-    let words_long = cases::least(relays::words_long(n, k), 2048);
-    let floats_long = cases::least(relays::floats_long(n, k), 1024);
-    in_state(
-        n,
-        k,
-        lanes,
-        jobs,
-        order,
-        &mut words[..words_long],
-        &mut floats[..floats_long],
-        nodes,
-        dists,
-        reports,
-    )
+    let mut words = [JUNK; 2048];
+    let mut floats = [1.5; 1024];
+    let words = &mut words[..relays::words_long(r.n, r.k).min(2048)];
+    let floats = &mut floats[..relays::floats_long(r.n, r.k).min(1024)];
+    in_state(r, order, words, floats, nodes, dists, reports)
 }

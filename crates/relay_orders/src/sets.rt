@@ -27,14 +27,15 @@ pub fn square_jobs() -> [u32; 6]
 }
 
 /// The drawn game of this number.
+#[tactic(auto, unfolding(crate::specs::Sets::drawn_game))]
 pub fn drawn(number: u32) -> Game
     ensures { result ≡ drawn_game number }
 {
     Game {
         n: 6,
         k: number as usize,
-        lanes: std::num::wrapping_add_u32(number, 20261100),
-        first: std::num::wrapping_add_u32(number, 20261101),
-        further: std::num::wrapping_add_u32(number, 20261102),
+        lanes: number.wrapping_add(20261100),
+        first: number.wrapping_add(20261101),
+        further: number.wrapping_add(20261102),
     }
 }

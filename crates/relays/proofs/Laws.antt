@@ -1,22 +1,11 @@
--- The bits of a float, and one turn and the end of the loop over our floats. Assumes nothing.
-use Rattle.std.proofs.Common.{◌≡◌, ℕ, suc, ◌+◌, ◌-◌, ◌<◌, ◌≤◌, true, false, T, List, length, get_or, drop, sym, refl, ap, ◌∙◌, subst, add-one, arith, drop_of_length-le, drop-cons, eq-eqb, ne_eqb}
-use lib.Ieee.{Float, nan, inf, fin, binary32, is_nan, ne, to_bits}
-use lib.Ieee.Compare.{differs_from_itself}
+-- One turn and the end of the loop over our floats. Assumes nothing.
+use Rattle.std.proofs.Common.{◌≡◌, ℕ, suc, ◌+◌, ◌-◌, ◌<◌, ◌≤◌, List, length, get_or, drop, sym, ap, ◌∙◌, add-one, arith, drop_of_length-le, drop-cons, eq-eqb, ne_eqb}
+use lib.Ieee.{Float, nan}
 use Rattle.cases.specs.declared.Cursor.{Cursor}
-use Rattle.cases.specs.declared.Word.{Word}
+use Rattle.cases.specs.declared.Read.{Read}
 use Rattle.cases.specs.Text.{word_at, words_at, behind}
 use Rattle.cases.proofs.Laws.{words_turn}
 use Rattle.relays.specs.Bits.{bits_of, agreeing}
-
-pub nan-bits : (x : Float) → ne x x ≡ true → 4294967295 ≡ bits_of x
-unfolding bits_of is_nan
-nan-bits x h = rw (differs_from_itself x (subst T (sym h) tt))
-
-pub own_bits : (x : Float) → ne x x ≡ false → to_bits binary32 x ≡ bits_of x
-unfolding bits_of is_nan ne
-own_bits nan h = absurd (subst T h tt)
-own_bits (inf s) h = refl
-own_bits (fin s m e) h = refl
 
 -- The first i of our floats are compared, and what is left says what the whole says.
 pub record Counting (text : List ℕ) (ours : List Float) (c₀ : Cursor) (i at : ℕ) (c : Cursor) : Type 0 where
@@ -43,17 +32,14 @@ module _ (text : List ℕ) (ours : List Float) (c₀ : Cursor) where
         let place : c ≡ behind (length ours) text c₀ = rw none at inv.place in
         (omega (arith, left, inv.count), place)
 
-    module _ (w : Word) (e : w ≡ word_at text c) (h : i < length ours) (v : ℕ) (b : v ≡ bits_of (get_or ours (i + 1 - 1) nan)) where
-      here : v ≡ bits_of (get_or ours i nan)
-      here = let back : i + 1 - 1 ≡ i = omega arith in b ∙ ap (λ (n : ℕ). bits_of (get_or ours n nan)) back
-
+    module _ (w : Read ℕ) (e : w ≡ word_at text c) (h : i < length ours) (v : ℕ) (here : v ≡ bits_of (get_or ours i nan)) where
       there : behind (length ours - (i + 1)) text w.cursor ≡ behind (length ours) text c₀
       unfolding behind
       there =
           let m = length ours - (i + 1) in
           let less : length ours - i ≡ suc m = omega arith in
           let step : behind (length ours - i) text c ≡ behind m text w.cursor =
-          ap (λ (n : ℕ). behind n text c) less ∙ ap (λ (u : Word). behind m text u.cursor) (sym e) in
+          ap (λ (n : ℕ). behind n text c) less ∙ ap (λ (u : Read ℕ). behind m text u.cursor) (sym e) in
           sym step ∙ inv.place
 
       rest : ℕ

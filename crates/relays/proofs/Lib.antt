@@ -1,3 +1,3 @@
--- `Laws`: the bits of a float, and one turn and the end of the loop over our floats. `Places`: the places are LAYOUT's.
+-- `Laws`: one turn and the end of the loop over our floats. `Places`: the places are LAYOUT's.
 pub mod Laws
 pub mod Places

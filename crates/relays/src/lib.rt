@@ -1,19 +1,12 @@
 // The common ground of the programs over a relay: places inside a state, and floats by their bits.
 #![tactic(auto)]
 
-ghost use Rattle.std.specs.Prelude.{◌≡◌, length, slice_set};
+ghost use Rattle.std.specs.Prelude.{◌≡◌, length};
 ghost use Rattle.cases.specs.Text.{words_at, behind};
-ghost use Rattle.relays.specs.Places.{sum, list_at, length_at, job_at, words_long, floats_long};
+ghost use Rattle.relays.specs.Places.{list_at, length_at, job_at, words_long, floats_long};
 ghost use Rattle.relays.specs.Bits.{bits_of, agreeing};
 
-use cases::Cursor;
-use replays::Compared;
-
-fn sum(a: usize, b: usize) -> usize
-    ensures { result ≡ sum a b }
-{
-    std::num::wrapping_add_usize(a, b)
-}
+use cases::{Cursor, Read};
 
 /// A word as a place.
 pub fn index(word: u32) -> usize
@@ -23,86 +16,67 @@ pub fn index(word: u32) -> usize
 }
 
 /// Where node `node`'s list starts, in the words and in the floats.
+#[tactic(auto, unfolding(crate::specs::Places::list_at))]
 pub fn list_at(k: usize, node: usize) -> usize
     ensures { result ≡ list_at k node }
 {
-    cases::area(node, sum(k, 64))
+    cases::area(node, k.wrapping_add(64))
 }
 
 /// The place of the length of node `node`'s list.
+#[tactic(auto, unfolding(crate::specs::Places::length_at))]
 pub fn length_at(n: usize, k: usize, node: usize) -> usize
     ensures { result ≡ length_at n k node }
 {
-    sum(cases::area(n, sum(k, 64)), node)
+    cases::area(n, k.wrapping_add(64)).wrapping_add(node)
 }
 
 /// The first of job `job`'s 15 words; the number of jobs stands in front of the first job.
+#[tactic(auto, unfolding(crate::specs::Places::job_at))]
 pub fn job_at(n: usize, k: usize, job: usize) -> usize
     ensures { result ≡ job_at n k job }
 {
-    sum(cases::area(n, sum(k, 65)), sum(1, cases::area(15, job)))
+    let in_front = 1usize.wrapping_add(cases::area(15, job));
+    cases::area(n, k.wrapping_add(65)).wrapping_add(in_front)
 }
 
 /// How many words a state is.
+#[tactic(auto, unfolding(crate::specs::Places::words_long))]
 pub fn words_long(n: usize, k: usize) -> usize
     ensures { result ≡ words_long n k }
 {
-    sum(cases::area(n, sum(k, 65)), 1024)
+    cases::area(n, k.wrapping_add(65)).wrapping_add(1024)
 }
 
 /// How many floats a state is.
+#[tactic(auto, unfolding(crate::specs::Places::floats_long))]
 pub fn floats_long(n: usize, k: usize) -> usize
     ensures { result ≡ floats_long n k }
 {
-    sum(cases::area(n, sum(k, 64)), 64)
+    cases::area(n, k.wrapping_add(64)).wrapping_add(64)
 }
 
 /// The bits of a float; a NaN's count as all ones.
+#[tactic(auto, unfolding(crate::specs::Bits::bits_of))]
 pub fn bits_of(x: f32) -> u32
     ensures { result ≡ bits_of x }
 {
-    if x != x {
-        return 0xFFFF_FFFF;
-    }
-    f32::to_bits(x)
+    if x.is_nan() { u32::MAX } else { x.to_bits() }
 }
 
-/// Compares the bits of our floats with the next numbers of a list.
-pub fn compare_bits(text: &[u8], c: Cursor, ours: &[f32]) -> Compared
-    ensures at_value { result.at ≡ agreeing ours.now (words_at (length ours.now) text.now c) }
+/// Compares the bits of our floats with the next numbers of a list: how many agree, and the place behind.
+pub fn compare_bits(text: &[u8], c: Cursor, ours: &[f32]) -> Read<usize>
+    ensures at_value { result.value ≡ agreeing ours.now (words_at (length ours.now) text.now c) }
     ensures cursor_value { result.cursor ≡ behind (length ours.now) text.now c }
 {
-    let mut i: usize = 0;
-    let mut at: usize = 0;
+    let mut value = 0;
     let mut cursor = c;
-    while i < ours.len() {
+    for &x in ours {
         let w = cases::read_word(text, cursor);
         cursor = w.cursor;
-        i += 1;
-        if w.value == bits_of(ours[i - 1]) {
-            at = std::num::wrapping_add_usize(at, 1);
+        if w.value == bits_of(x) {
+            value += 1;
         }
     }
-    Compared {
-        at: at,
-        cursor: cursor,
-    }
-}
-
-/// Puts a word at a place; a place behind the end changes nothing.
-pub fn put_word(words: &mut [u32], at: usize, word: u32)
-    ensures { words.new ≡ slice_set words.old at word }
-{
-    if at < words.len() {
-        words[at] = word;
-    }
-}
-
-/// Puts a float at a place; a place behind the end changes nothing.
-pub fn put_float(floats: &mut [f32], at: usize, float: f32)
-    ensures { floats.new ≡ slice_set floats.old at float }
-{
-    if at < floats.len() {
-        floats[at] = float;
-    }
+    Read { value, cursor }
 }

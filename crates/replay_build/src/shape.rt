@@ -14,6 +14,7 @@ pub struct Shape {
     pub cursor: Cursor,
 }
 
+#[tactic(auto, unfolding(crate::specs::Shape::taught_at))]
 fn read_params(text: &[u8], dimension: usize, n: usize, c: Cursor) -> Shape
     ensures { result ≡ taught_at text.now dimension n c }
 {
@@ -21,7 +22,6 @@ fn read_params(text: &[u8], dimension: usize, n: usize, c: Cursor) -> Shape
     let row = cases::read_size(text, init_k.cursor, 64);
     let hops = cases::read_size(text, row.cursor, 256);
     let threshold = cases::read_word(text, hops.cursor);
-    let cursor = threshold.cursor;
     let params = SsgParams {
         threshold: cases::float(threshold.value),
         init_k: init_k.value,
@@ -29,14 +29,15 @@ fn read_params(text: &[u8], dimension: usize, n: usize, c: Cursor) -> Shape
         neighbor_neighbor_size: hops.value,
     };
     Shape {
-        dimension: dimension,
-        n: n,
-        params: params,
-        cursor: cursor,
+        dimension,
+        n,
+        params,
+        cursor: threshold.cursor,
     }
 }
 
 /// Reads the dimension and n, then the parameters.
+#[tactic(auto, unfolding(crate::specs::Shape::shape_at))]
 pub fn read_shape(text: &[u8], c: Cursor) -> Shape
     ensures { result ≡ shape_at text.now c }
 {

@@ -4,9 +4,10 @@ ghost use Rattle.replay_descent.specs.Left.{compared_with, state_read, beside_at
 
 use crate::shape::Shape;
 use cases::Cursor;
-use tallies::Outcome;
+use tallies::{Difference, Outcome};
 
 // The state beside the list's, whose words and floats are given.
+#[tactic(auto, unfolding(crate::specs::Left::compared_with))]
 fn compared(
     o: Outcome,
     s: Shape,
@@ -18,12 +19,17 @@ fn compared(
     ensures { result ≡ compared_with o s state_u.now state_f.now words.now floats.now }
 {
     let lists = cases::area(s.n, s.k);
-    let p = tallies::and(o, states::same_first(state_u, words, lists), tallies::NODES);
-    let q = tallies::and(p, states::same_floats(state_f, floats), tallies::BITS);
-    tallies::and(q, states::same_words(state_u, words), tallies::WORDS)
+    let p = tallies::and(
+        o,
+        states::same_first(state_u, words, lists),
+        Difference::Nodes,
+    );
+    let q = tallies::and(p, states::same_floats(state_f, floats), Difference::Bits);
+    tallies::and(q, states::same_words(state_u, words), Difference::Words)
 }
 
 /// The state beside the list's, which is read into `words` and `floats`.
+#[tactic(auto, unfolding(crate::specs::Left::beside_at))]
 pub fn beside_read(
     text: &[u8],
     o: Outcome,
@@ -42,20 +48,22 @@ pub fn beside_read(
 }
 
 /// A refused call: the state that the list has for it is passed.
+#[tactic(auto, unfolding(crate::specs::Left::refused_at))]
 pub fn refused(text: &[u8], o: Outcome, c: Cursor, s: Shape) -> Outcome
     ensures { result ≡ refused_at text.now o c s }
 {
     let p = tallies::at(o, kinds::pass_state(text, c, s.n, s.k));
-    tallies::and(p, false, tallies::REFUSED)
+    tallies::and(p, false, Difference::Refused)
 }
 
 /// An iteration's cost and total of new, beside the list's.
+#[tactic(auto, unfolding(crate::specs::Left::counts_at))]
 pub fn counts(text: &[u8], o: Outcome, cost: usize, new: usize) -> Outcome
     ensures { result ≡ counts_at text.now o cost new }
 {
     let a = cases::read_word(text, o.cursor);
     let b = cases::read_word(text, a.cursor);
     let p = tallies::at(o, b.cursor);
-    let q = tallies::and(p, a.value as usize == cost, tallies::COUNT);
-    tallies::and(q, b.value as usize == new, tallies::COUNT)
+    let q = tallies::and(p, a.value as usize == cost, Difference::Count);
+    tallies::and(q, b.value as usize == new, Difference::Count)
 }

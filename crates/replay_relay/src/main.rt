@@ -2,23 +2,19 @@
 #![tactic(auto)]
 
 use cases::Cursor;
-use rules::Answer;
-use shape::Shape;
-use std::env::Env;
-use std::fs::Files;
+use kinds::Kind;
+use rules::Refusal;
+use shape::{MOST_JOBS, MOST_MOVES, Shape};
 use std::io;
-use tallies::{JUNK, Outcome, Tally};
+use tallies::{Difference, JUNK, Outcome};
 
 mod left;
 mod shape;
 
-// The kind of a relay in a list.
-const RELAY: u32 = 5;
-
-fn done(answer: Answer) -> bool {
+fn done(answer: Result<(), Refusal>) -> bool {
     match answer {
-        Answer::Done => true,
-        Answer::Refused(_) => false,
+        Ok(()) => true,
+        Err(_) => false,
     }
 }
 
@@ -32,7 +28,7 @@ fn moved(
     floats: &mut [f32],
 ) -> Outcome {
     let answer = relay_move::move_job(s.n, s.k, job, words, floats);
-    let p = tallies::and(o, done(answer), tallies::REFUSED);
+    let p = tallies::and(o, done(answer), Difference::Refused);
     let node = left::concerned(s, job, jobs, words);
     left::left(text, p, s, node, words, floats)
 }
@@ -47,12 +43,9 @@ fn run(
     words: &mut [u32],
     floats: &mut [f32],
 ) -> Outcome {
-    let mut i: usize = 0;
     let mut p = o;
-    while i < order.len() {
-        let next = moved(text, p, s, relays::index(order[i]), jobs, words, floats);
-        p = next;
-        i += 1;
+    for &job in order {
+        p = moved(text, p, s, relays::index(job), jobs, words, floats);
     }
     p
 }
@@ -70,7 +63,7 @@ fn closed(
 ) -> Outcome {
     let mut reports: [u32; 128] = [JUNK; 128];
     let answer = relay_close::close(s.n, s.k, words, floats, nodes, dists, &mut reports);
-    let p = tallies::and(o, done(answer), tallies::REFUSED);
+    let p = tallies::and(o, done(answer), Difference::Refused);
     let q = left::beside(text, p, nodes, dists);
     left::reported(text, q, count, &reports)
 }
@@ -85,8 +78,8 @@ fn close_in(
 ) -> Outcome {
     let mut nodes: [u32; 256] = [JUNK; 256];
     let mut dists: [f32; 256] = [1.5; 256];
-    let nodes_long = cases::least(cases::area(s.n, s.k), nodes.len());
-    let dists_long = cases::least(cases::area(s.n, s.k), dists.len());
+    let nodes_long = cases::area(s.n, s.k).min(nodes.len());
+    let dists_long = cases::area(s.n, s.k).min(dists.len());
     closed(
         text,
         o,
@@ -125,7 +118,7 @@ fn opened(
         &mut scratch_u,
         &mut scratch_f,
     );
-    let p = tallies::and(tallies::fresh(c), done(answer), tallies::REFUSED);
+    let p = tallies::and(tallies::fresh(c), done(answer), Difference::Refused);
     tallies::with_scratch(p, &scratch_u, &scratch_f)
 }
 
@@ -152,11 +145,10 @@ fn moves(
     words: &mut [u32],
     floats: &mut [f32],
 ) -> Outcome {
-    let count = shape::read_moves(text, o.cursor);
-    let long = count.value;
+    let count = cases::read_size(text, o.cursor, MOST_MOVES);
     let p = tallies::at(o, count.cursor);
-    let mut order: [u32; 512] = [0; 512];
-    ordered(text, p, s, jobs, &mut order[..long], words, floats)
+    let mut order = [0; MOST_MOVES];
+    ordered(text, p, s, jobs, &mut order[..count.value], words, floats)
 }
 
 // The relay on a state of the case's lengths. `c` is the place of the moves in the list.
@@ -187,8 +179,8 @@ fn with_jobs(
 ) -> Outcome {
     let mut words: [u32; 8192] = [JUNK; 8192];
     let mut floats: [f32; 8192] = [1.5; 8192];
-    let words_long = cases::least(relays::words_long(s.n, s.k), words.len());
-    let floats_long = cases::least(relays::floats_long(s.n, s.k), floats.len());
+    let words_long = relays::words_long(s.n, s.k).min(words.len());
+    let floats_long = relays::floats_long(s.n, s.k).min(floats.len());
     let cursor = cases::read_words(text, c, jobs);
     relayed(
         text,
@@ -211,9 +203,8 @@ fn with_lists(
     nodes: &[u32],
     dists: &[f32],
 ) -> Outcome {
-    let count = shape::read_jobs(text, c);
-    let long = 2 * count.value;
-    let mut jobs: [u32; 128] = [0; 128];
+    let count = cases::read_size(text, c, MOST_JOBS);
+    let mut jobs = [0; 2 * MOST_JOBS];
     with_jobs(
         text,
         count.cursor,
@@ -221,7 +212,7 @@ fn with_lists(
         lanes,
         nodes,
         dists,
-        &mut jobs[..long],
+        &mut jobs[..2 * count.value],
     )
 }
 
@@ -241,9 +232,9 @@ fn given(
 
 // The parts of our places that the case asks for; what is too long for them is cut, and so refused.
 fn lent(text: &[u8], s: Shape, lanes: &mut [f32], nodes: &mut [u32], dists: &mut [f32]) -> Outcome {
-    let lanes_long = cases::least(cases::area(s.n, s.dimension), lanes.len());
-    let nodes_long = cases::least(cases::area(s.n, s.k), nodes.len());
-    let dists_long = cases::least(cases::area(s.n, s.k), dists.len());
+    let lanes_long = cases::area(s.n, s.dimension).min(lanes.len());
+    let nodes_long = cases::area(s.n, s.k).min(nodes.len());
+    let dists_long = cases::area(s.n, s.k).min(dists.len());
     given(
         text,
         s,
@@ -253,7 +244,7 @@ fn lent(text: &[u8], s: Shape, lanes: &mut [f32], nodes: &mut [u32], dists: &mut
     )
 }
 
-fn one_case(text: &[u8], c: Cursor) -> Outcome {
+fn one_relay(text: &[u8], c: Cursor) -> Outcome {
     let s = shape::read_shape(text, c);
     let mut lanes: [f32; 2048] = [0.0; 2048];
     let mut nodes: [u32; 256] = [0; 256];
@@ -261,39 +252,10 @@ fn one_case(text: &[u8], c: Cursor) -> Outcome {
     lent(text, s, &mut lanes, &mut nodes, &mut dists)
 }
 
-// A proved loop has to end: it counts its turns down, from more cases than a list has.
-fn replayed(rt: &impl Print, text: &[u8]) -> io::Result<Tally> {
-    let mut turns: u32 = 65536;
-    let mut t = tallies::none();
-    while turns > 0 {
-        let case = replays::next_case(text, t.cursor, t.compared);
-        let cursor = case.cursor;
-        if case.kind != RELAY {
-            return Ok(tallies::ended(t, case.kind, cursor));
-        }
-        let o = one_case(text, cursor);
-        let next = tallies::with_case(rt, t, o)?;
-        t = next;
-        turns -= 1;
-    }
-    Ok(t)
+fn one_case(text: &[u8], kind: Kind, c: Cursor) -> Option<Outcome> {
+    (kind == Kind::Relay).then(|| one_relay(text, c))
 }
 
-// A list that is read from standard input (0) or from the file that an argument names.
-fn replay(rt: &(impl Env + Files + Input + Print), label: &[u8], i: usize) -> io::Result<()> {
-    let mut room = cases::room();
-    let n = tallies::read_list(rt, i, &mut room)?;
-    let t = replayed(rt, &room[..n])?;
-    let mut page: [u8; 256] = [0; 256];
-    let end = tallies::put_tally(&mut page, 0, label, t);
-    rt.write_all(pages::text(&page, end))
-}
-
-// The Rust's list has nothing that differs, so the lists that arguments name, wrong on purpose, show that what differs is said.
 fn main(rt: HostRuntime) -> io::Result<()> {
-    replay(&rt, b"relays compared: ", 0)?;
-    for i in 1..inputs::arg_count(&rt) {
-        replay(&rt, b"relays of a list that is wrong on purpose: ", i)?;
-    }
-    Ok(())
+    tallies::replay(&rt, b"relays", one_case)
 }

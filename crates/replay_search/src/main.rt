@@ -2,18 +2,14 @@
 #![tactic(auto)]
 
 use cases::Cursor;
-use rules::SearchAnswer;
+use kinds::Kind;
+use rules::SearchCounts;
 use shape::Shape;
-use std::env::Env;
-use std::fs::Files;
 use std::io;
-use tallies::{JUNK, Outcome, Tally};
+use tallies::{Difference, JUNK, Outcome};
 
 mod left;
 mod shape;
-
-// The kind of a search in a list.
-const SEARCH: u32 = 2;
 
 // The call. `c` is the place of the answer in the list.
 fn searched(
@@ -44,11 +40,11 @@ fn searched(
         &mut floats,
     );
     match answer {
-        SearchAnswer::Found { m, takings } => {
+        Ok(SearchCounts { m, takings }) => {
             let o = left::found(text, c, m, takings, &nodes, &bits);
             tallies::with_scratch(o, &words, &floats)
         }
-        SearchAnswer::Refused(_) => left::pass_answer(text, c, tallies::REFUSED),
+        Err(_) => left::pass_answer(text, c, Difference::Refused),
     }
 }
 
@@ -60,7 +56,7 @@ fn with_points(
     graph: &[u32],
     roots: &[u32],
 ) -> Outcome {
-    let cut = cases::least(cases::area(s.n, s.dimension), points.len());
+    let cut = cases::area(s.n, s.dimension).min(points.len());
     searched(text, c, s, &points[..cut], &points[cut..], graph, roots)
 }
 
@@ -86,9 +82,9 @@ fn lent(
     graph: &mut [u32],
     roots: &mut [u32],
 ) -> Outcome {
-    let points_long = cases::least(s.points, points.len());
-    let graph_long = cases::least(cases::area(s.n, s.row), graph.len());
-    let roots_long = cases::least(s.roots, roots.len());
+    let points_long = s.points.min(points.len());
+    let graph_long = cases::area(s.n, s.row).min(graph.len());
+    let roots_long = s.roots.min(roots.len());
     given(
         text,
         s,
@@ -98,7 +94,7 @@ fn lent(
     )
 }
 
-fn one_case(text: &[u8], c: Cursor) -> Outcome {
+fn one_search(text: &[u8], c: Cursor) -> Outcome {
     let s = shape::read_shape(text, c);
     let mut points: [f32; 1088] = [0.0; 1088];
     let mut graph: [u32; 512] = [0; 512];
@@ -106,39 +102,10 @@ fn one_case(text: &[u8], c: Cursor) -> Outcome {
     lent(text, s, &mut points, &mut graph, &mut roots)
 }
 
-// A proved loop has to end: it counts its turns down, from more cases than a list has.
-fn replayed(rt: &impl Print, text: &[u8]) -> io::Result<Tally> {
-    let mut turns: u32 = 65536;
-    let mut t = tallies::none();
-    while turns > 0 {
-        let case = replays::next_case(text, t.cursor, t.compared);
-        let cursor = case.cursor;
-        if case.kind != SEARCH {
-            return Ok(tallies::ended(t, case.kind, cursor));
-        }
-        let o = one_case(text, cursor);
-        let next = tallies::with_case(rt, t, o)?;
-        t = next;
-        turns -= 1;
-    }
-    Ok(t)
+fn one_case(text: &[u8], kind: Kind, c: Cursor) -> Option<Outcome> {
+    (kind == Kind::Search).then(|| one_search(text, c))
 }
 
-// A list that is read from standard input (0) or from the file that an argument names.
-fn replay(rt: &(impl Env + Files + Input + Print), label: &[u8], i: usize) -> io::Result<()> {
-    let mut room = cases::room();
-    let n = tallies::read_list(rt, i, &mut room)?;
-    let t = replayed(rt, &room[..n])?;
-    let mut page: [u8; 256] = [0; 256];
-    let end = tallies::put_tally(&mut page, 0, label, t);
-    rt.write_all(pages::text(&page, end))
-}
-
-// The Rust's list has nothing that differs, so the lists that arguments name, wrong on purpose, show that what differs is said.
 fn main(rt: HostRuntime) -> io::Result<()> {
-    replay(&rt, b"searches compared: ", 0)?;
-    for i in 1..inputs::arg_count(&rt) {
-        replay(&rt, b"searches of a list that is wrong on purpose: ", i)?;
-    }
-    Ok(())
+    tallies::replay(&rt, b"searches", one_case)
 }

@@ -6,101 +6,86 @@ ghost use Rattle.cases.specs.Text.{words_at, behind};
 ghost use Rattle.replays.specs.Compare.{apart, holds_only, is_zero, all_zero};
 ghost use Rattle.replays.specs.Next.{unexpected, end_at, case_at};
 
-use cases::{Cursor, Token};
+use cases::{Cursor, Fault, Read, Token};
 
-/// The next case of a list: its kind, 1 to 6, and 0 where the list ends or something went wrong,
-/// which the cursor says.
-#[derive(Clone, Copy)]
-pub struct Case {
-    pub kind: u32,
-    pub cursor: Cursor,
-}
-
-/// The first place where our numbers differ from a list's, or their length, and the place behind.
-#[derive(Clone, Copy)]
-pub struct Compared {
-    pub at: usize,
-    pub cursor: Cursor,
-}
-
-fn unexpected(c: Cursor) -> Case
+#[tactic(auto, unfolding(crate::specs::Next::unexpected))]
+fn unexpected(c: Cursor) -> Read<Option<u32>>
     ensures { result ≡ unexpected c }
 {
-    Case {
-        kind: 0,
-        cursor: cases::faulted(c, cases::UNEXPECTED),
+    Read {
+        value: None,
+        cursor: cases::faulted(c, Fault::Unexpected),
     }
 }
 
 // The list's end: the number of cases, and nothing more.
-fn list_end(text: &[u8], c: Cursor, passed: u32) -> Case
+#[tactic(auto, unfolding(crate::specs::Next::end_at, crate::specs::Next::closed))]
+fn list_end(text: &[u8], c: Cursor, passed: u32) -> Read<Option<u32>>
     ensures { result ≡ end_at text.now passed c }
 {
     let total = cases::read_word(text, c);
-    let behind = total.cursor;
+    let cursor = total.cursor;
     if total.value != passed {
-        return unexpected(behind);
+        return unexpected(cursor);
     }
-    let t = cases::next_number(text, behind);
-    match t {
-        Token::End(_) => Case {
-            kind: 0,
-            cursor: behind,
+    match cases::next_number(text, cursor) {
+        Token::End(_) => Read {
+            value: None,
+            cursor,
         },
-        _ => unexpected(behind),
+        _ => unexpected(cursor),
     }
 }
 
-/// Reads the number and the kind of the next case, after `passed` cases.
-pub fn next_case(text: &[u8], c: Cursor, passed: u32) -> Case
+/// Reads the number and the kind of the next case, after `passed` cases: the kind is 1 to 6, and there is none where the list ends or something went wrong, which the
+/// cursor says.
+#[tactic(auto, unfolding(crate::specs::Next::case_at, crate::specs::Next::case_from, crate::specs::Next::of_kind))]
+pub fn next_case(text: &[u8], c: Cursor, passed: u32) -> Read<Option<u32>>
     ensures { result ≡ case_at text.now passed c }
 {
     let number = cases::read_word(text, c);
     let behind = number.cursor;
-    if behind.fault != 0 {
-        return Case {
-            kind: 0,
+    if behind.fault.is_some() {
+        return Read {
+            value: None,
             cursor: behind,
         };
     }
     if number.value == 0 {
         return list_end(text, behind, passed);
     }
-    if number.value != std::num::wrapping_add_u32(passed, 1) {
+    if number.value != passed.wrapping_add(1) {
         return unexpected(behind);
     }
     let kind = cases::read_size(text, behind, 6);
-    let after = kind.cursor;
     if kind.value == 0 {
-        return unexpected(after);
+        return unexpected(kind.cursor);
     }
-    Case {
-        kind: kind.value as u32,
-        cursor: after,
+    Read {
+        value: Some(kind.value as u32),
+        cursor: kind.cursor,
     }
 }
 
-/// Compares our numbers with the next of a list.
-pub fn compare(text: &[u8], c: Cursor, ours: &[u32]) -> Compared
-    ensures at_value { result.at ≡ apart ours.now (words_at (length ours.now) text.now c) }
+/// Compares our numbers with the next of a list: the first place where they differ, and the place behind.
+pub fn compare(text: &[u8], c: Cursor, ours: &[u32]) -> Read<Option<usize>>
+    ensures at_value { result.value ≡ apart ours.now (words_at (length ours.now) text.now c) }
     ensures cursor_value { result.cursor ≡ behind (length ours.now) text.now c }
 {
-    let mut i: usize = 0;
     let mut cursor = c;
-    while i < ours.len() {
+    for (i, &x) in ours.iter().enumerate() {
         let w = cases::read_word(text, cursor);
         cursor = w.cursor;
-        if w.value != ours[i] {
-            return Compared {
-                at: i,
+        if w.value != x {
+            return Read {
+                value: Some(i),
                 cursor: cases::pass(text, cursor, ours.len() - i - 1),
             };
         }
-        i += 1;
     }
-    Compared {
-        at: i,
-        cursor: cursor,
+    Read {
+        value: None,
+        cursor,
     }
 }
 
@@ -108,35 +93,19 @@ pub fn compare(text: &[u8], c: Cursor, ours: &[u32]) -> Compared
 pub fn all_words(xs: &[u32], from: usize, value: u32) -> bool
     ensures { result ≡ holds_only value (drop from xs.now) }
 {
-    let mut i = from;
-    while i < xs.len() {
-        if xs[i] != value {
-            return false;
-        }
-        i += 1;
-    }
-    true
+    xs.iter().skip(from).all(|x| *x == value)
 }
 
 /// Whether every place holds 0.0, and not -0.0.
 pub fn all_zero(xs: &[f32]) -> bool
     ensures { result ≡ all_zero xs.now }
 {
-    let mut i: usize = 0;
-    while i < xs.len() {
-        if !is_zero(xs[i]) {
-            return false;
-        }
-        i += 1;
-    }
-    true
+    xs.iter().all(|x| is_zero(*x))
 }
 
+#[tactic(auto, unfolding(crate::specs::Compare::is_zero))]
 fn is_zero(x: f32) -> bool
     ensures { result ≡ is_zero x }
 {
-    if x != x {
-        return false;
-    }
-    f32::to_bits(x) == 0
+    !x.is_nan() && x.to_bits() == 0
 }

@@ -1,3 +1,3 @@
--- `Laws`: one turn and the end of each loop over two lists. `Reading`: of each loop that reads.
+-- `Laws`: two lists in step. `Reading`: the loop that reads a state, and its parts one behind the other.
 pub mod Laws
 pub mod Reading

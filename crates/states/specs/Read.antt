@@ -1,7 +1,8 @@
 -- A list's descent state, read into the places of docs/LAYOUT.md. Assumes nothing.
 use Rattle.std.specs.Prelude.{cond, List, ◌∷◌, ◌++◌, ℕ, zero, suc, ◌+◌, ◌-◌, ◌/◌, eqb, ltb, length, take, drop, Float}
 use Rattle.cases.specs.declared.Cursor.{Cursor}
-use Rattle.cases.specs.declared.Size.{Size}
+use Rattle.cases.specs.declared.Read.{Read}
+use Rattle.cases.specs.declared.Fault.TheVariants.{Unexpected}
 use Rattle.cases.specs.Text.{faulted, size_at, area_of, words_at, floats_at, behind}
 
 -- What places hold after a reading, and the place in the text behind what was read
@@ -26,12 +27,12 @@ state words floats cursor = record { words = words; floats = floats; cursor = cu
 
 module _ (text : List ℕ) where
   -- "the length, then 64 places": those behind the members stay as they were
-  unfoldable pub block : Size → List ℕ → List ℕ
+  unfoldable pub block : Read ℕ → List ℕ → List ℕ
   block s places = s.value ∷ (words_at s.value text s.cursor ++ drop (1 + s.value) places)
 
   -- n context lists, each in 65 places; further places are a fault
   unfoldable pub blocks : ℕ → Cursor → List ℕ → Filled
-  blocks zero c places = filled places (cond (eqb (length places) 0) c (faulted c 4))
+  blocks zero c places = filled places (cond (eqb (length places) 0) c (faulted c Unexpected))
   blocks (suc n) c places =
       let s = size_at 64 text c in
       let written = block s places in
@@ -54,5 +55,5 @@ module _ (text : List ℕ) where
       let marks = area_of n k + area_of 260 n in
       let s = lists_at (area_of n k) c (take marks words) floats in
       let pairs = length words - marks in
-      cond (ltb (length words) marks) (state words floats (faulted c 4))
+      cond (ltb (length words) marks) (state words floats (faulted c Unexpected))
       (state (s.words ++ words_at pairs text s.cursor) s.floats (behind pairs text s.cursor))

@@ -1,9 +1,15 @@
 -- How a case came out, and how many did. Assumes nothing.
-use Rattle.std.specs.Prelude.{ℕ, ◌+◌, ◌%◌, ◌^◌, Bool, cond, List, ◌++◌, ◌==◌, Float}
+use Rattle.std.specs.Prelude.{ℕ, ◌+◌, ◌%◌, ◌^◌, Bool, cond, List, ◌++◌, Float, Option, Some, None, is_some}
+use Rattle.std.specs.Option.{option_or}
 use Rattle.cases.specs.declared.Cursor.{Cursor}
-use Rattle.cases.specs.Text.{first, faulted}
+use Rattle.cases.specs.declared.Read.{Read}
+use Rattle.cases.specs.declared.Fault.TheVariants.{Unexpected}
+use Rattle.cases.specs.Text.{first, faulted, fault_number}
 use Rattle.pages.specs.Page.{bytes, labelled}
 use Rattle.replays.specs.Compare.{holds_only, all_zero}
+use Rattle.kinds.specs.declared.Kind.{Kind}
+use Rattle.tallies.specs.declared.Difference.{Difference}
+use Rattle.tallies.specs.declared.Difference.TheVariants.{Refused, Length, Nodes, Bits, Count, Beyond, Scratch, Words}
 use Rattle.tallies.specs.declared.Outcome.{Outcome}
 use Rattle.tallies.specs.declared.Tally.{Tally}
 
@@ -16,46 +22,46 @@ junk = 0xCDCDCDCD
 
 -- Nothing differs yet
 abbrev pub fresh_at : Cursor → Outcome
-fresh_at c = record { differs = 0; cursor = c }
+fresh_at c = record { differs = None; cursor = c }
 
 abbrev pub moved_to : Outcome → Cursor → Outcome
 moved_to o c = record { differs = o.differs; cursor = c }
 
 -- What differed first is kept
-unfoldable pub joined : Outcome → Bool → ℕ → Outcome
+unfoldable pub joined : Outcome → Bool → Difference → Outcome
 joined o fine differs =
-    cond fine o (cond (o.differs == 0) (record { differs = differs; cursor = o.cursor }) o)
+    cond fine o (record { differs = option_or o.differs (Some differs); cursor = o.cursor })
 
--- "Scratch .. all zero after success": a place that is not is difference 7
+-- "Scratch .. all zero after success"
 unfoldable pub scratched : Outcome → List ℕ → List Float → Outcome
-scratched o words floats = joined (joined o (holds_only 0 words) 7) (all_zero floats) 7
+scratched o words floats = joined (joined o (holds_only 0 words) Scratch) (all_zero floats) Scratch
 
 unfoldable pub counted : Tally → Outcome → Tally
 counted t o =
     record {
       compared = (t.compared + 1) % 2 ^ 32;
-      differ = cond (o.differs == 0) t.differ ((t.differ + 1) % 2 ^ 32);
+      differ = cond (is_some o.differs) ((t.differ + 1) % 2 ^ 32) t.differ;
       cursor = o.cursor;
     }
 
--- A case of another kind than 0, the end, is a number that the format does not allow
-unfoldable pub closed : Tally → ℕ → Cursor → Tally
-closed t kind c =
-    record { compared = t.compared; differ = t.differ; cursor = cond (kind == 0) c (faulted c 4) }
+-- A case of another kind where the list should end is a number that the format does not allow
+unfoldable pub closed : Tally → Read (Option Kind) → Tally
+closed t case =
+    record { compared = t.compared; differ = t.differ; cursor = cond (is_some case.value) (faulted case.cursor Unexpected) case.cursor }
 
 -- What is said of a case, behind its number
-unfoldable pub differs_text : ℕ → List ℕ
-differs_text n =
-    cond (n == 1) (bytes " is refused\n")
-    (cond (n == 2) (bytes " differs in a length\n")
-    (cond (n == 3) (bytes " differs in node numbers\n")
-    (cond (n == 4) (bytes " differs in distance bits\n")
-    (cond (n == 5) (bytes " differs in a count\n")
-    (cond (n == 6) (bytes " changes a place that is not its own\n")
-    (cond (n == 7) (bytes " leaves scratch that is not zero\n") (bytes " differs in other words\n")))))))
+unfoldable pub differs_text : Difference → List ℕ
+differs_text Refused = bytes " is refused\n"
+differs_text Length = bytes " differs in a length\n"
+differs_text Nodes = bytes " differs in node numbers\n"
+differs_text Bits = bytes " differs in distance bits\n"
+differs_text Count = bytes " differs in a count\n"
+differs_text Beyond = bytes " changes a place that is not its own\n"
+differs_text Scratch = bytes " leaves scratch that is not zero\n"
+differs_text Words = bytes " differs in other words\n"
 
 -- What is said of all cases
 unfoldable pub tally_text : List ℕ → Tally → List ℕ
 tally_text label t =
     labelled label t.compared ++ labelled (bytes "\nthat differ: ") t.differ ++ labelled (bytes "\nnumbers: ") t.cursor.count
-    ++ labelled (bytes ", sum: ") t.cursor.sum ++ labelled (bytes ", fault: ") t.cursor.fault ++ bytes "\n"
+    ++ labelled (bytes ", sum: ") t.cursor.sum ++ labelled (bytes ", fault: ") (fault_number t.cursor.fault) ++ bytes "\n"

@@ -1,34 +1,37 @@
-// What tests over files read, count and say: a list, how a case came out, and how many did.
+// What tests over files read, count and say: a list, how a case came out, and how many did; and the replay of a list.
 #![tactic(auto)]
 
-ghost use Rattle.std.specs.Prelude.{◌≡◌, IfOk, IsOk, OnErr, length};
+ghost use Rattle.std.specs.Prelude.{◌≡◌, IfOk, IsOk, None, OnErr, length};
 ghost use Rattle.std.specs.Io.{ReadsAtMost};
 ghost use Rattle.pages.specs.Page.{Puts};
 ghost use Rattle.tallies.specs.Tallies.{no_case, fresh_at, moved_to, joined, scratched, counted, closed, differs_text, tally_text};
 
-use cases::Cursor;
+use cases::{Cursor, Fault, Read};
+use kinds::Kind;
 use std::env::Env;
 use std::fs::Files;
 use std::io;
 
-/// Everything is as the list says.
-pub const NOTHING: u32 = 0;
-/// A case of the list was refused.
-pub const REFUSED: u32 = 1;
-/// A length differs.
-pub const LENGTH: u32 = 2;
-/// Node numbers differ.
-pub const NODES: u32 = 3;
-/// Distance bits differ.
-pub const BITS: u32 = 4;
-/// A count differs: takings, a cost, a total of new, a report.
-pub const COUNT: u32 = 5;
-/// A place that no rule writes has changed.
-pub const BEYOND: u32 = 6;
-/// Scratch is not all zero.
-pub const SCRATCH: u32 = 7;
-/// Other words differ: contexts, visited pairs.
-pub const WORDS: u32 = 8;
+/// What can differ in a case.
+#[derive(Clone, Copy, PartialEq, Eq)]
+pub enum Difference {
+    /// A case of the list was refused.
+    Refused,
+    /// A length differs.
+    Length,
+    /// Node numbers differ.
+    Nodes,
+    /// Distance bits differ.
+    Bits,
+    /// A count differs: takings, a cost, a total of new, a report.
+    Count,
+    /// A place that no rule writes has changed.
+    Beyond,
+    /// Scratch is not all zero.
+    Scratch,
+    /// Other words differ: contexts, visited pairs.
+    Words,
+}
 
 /// What lent places hold before a call.
 pub const JUNK: u32 = 0xCDCD_CDCD;
@@ -36,7 +39,7 @@ pub const JUNK: u32 = 0xCDCD_CDCD;
 /// What differs first in a case, and the place behind it.
 #[derive(Clone, Copy)]
 pub struct Outcome {
-    pub differs: u32,
+    pub differs: Option<Difference>,
     pub cursor: Cursor,
 }
 
@@ -49,6 +52,7 @@ pub struct Tally {
 }
 
 /// No case yet.
+#[tactic(auto, unfolding(crate::specs::Tallies::no_case))]
 pub fn none() -> Tally
     ensures { result ≡ no_case }
 {
@@ -60,81 +64,65 @@ pub fn none() -> Tally
 }
 
 /// Nothing differs yet.
-pub fn fresh(c: Cursor) -> Outcome
-    ensures { result ≡ fresh_at c }
+pub fn fresh(cursor: Cursor) -> Outcome
+    ensures { result ≡ fresh_at cursor }
 {
     Outcome {
-        differs: NOTHING,
-        cursor: c,
+        differs: None,
+        cursor,
     }
 }
 
 /// What differs so far, with another place in the list.
-pub fn at(o: Outcome, c: Cursor) -> Outcome
-    ensures { result ≡ moved_to o c }
+pub fn at(o: Outcome, cursor: Cursor) -> Outcome
+    ensures { result ≡ moved_to o cursor }
 {
-    Outcome {
-        differs: o.differs,
-        cursor: c,
-    }
+    Outcome { cursor, ..o }
 }
 
 /// The outcome, or what differs where nothing did before.
-pub fn and(o: Outcome, fine: bool, differs: u32) -> Outcome
+#[tactic(auto, unfolding(crate::specs::Tallies::joined))]
+pub fn and(o: Outcome, fine: bool, differs: Difference) -> Outcome
     ensures { result ≡ joined o fine differs }
 {
-    let cursor = o.cursor;
     if fine {
         return o;
     }
-    if o.differs != NOTHING {
-        return o;
-    }
     Outcome {
-        differs: differs,
-        cursor: cursor,
+        differs: o.differs.or(Some(differs)),
+        ..o
     }
 }
 
 /// The outcome with that of scratch, which is all zero after success.
+#[tactic(auto, unfolding(crate::specs::Tallies::scratched))]
 pub fn with_scratch(o: Outcome, words: &[u32], floats: &[f32]) -> Outcome
     ensures { result ≡ scratched o words.now floats.now }
 {
-    let p = and(o, replays::all_words(words, 0, 0), SCRATCH);
-    and(p, replays::all_zero(floats), SCRATCH)
+    let p = and(o, replays::all_words(words, 0, 0), Difference::Scratch);
+    and(p, replays::all_zero(floats), Difference::Scratch)
 }
 
-fn put_differs(page: &mut [u8], at: usize, differs: u32) -> usize
-    ensures { Puts at (differs_text differs) page.old result page.new }
+#[tactic(auto, unfolding(crate::specs::Tallies::differs_text, pages::specs::Page::bytes))]
+fn text_of(differs: Difference) -> &'static [u8]
+    ensures { result.now ≡ differs_text differs }
 {
-    if differs == REFUSED {
-        return pages::put(page, at, b" is refused\n");
+    match differs {
+        Difference::Refused => b" is refused\n",
+        Difference::Length => b" differs in a length\n",
+        Difference::Nodes => b" differs in node numbers\n",
+        Difference::Bits => b" differs in distance bits\n",
+        Difference::Count => b" differs in a count\n",
+        Difference::Beyond => b" changes a place that is not its own\n",
+        Difference::Scratch => b" leaves scratch that is not zero\n",
+        Difference::Words => b" differs in other words\n",
     }
-    if differs == LENGTH {
-        return pages::put(page, at, b" differs in a length\n");
-    }
-    if differs == NODES {
-        return pages::put(page, at, b" differs in node numbers\n");
-    }
-    if differs == BITS {
-        return pages::put(page, at, b" differs in distance bits\n");
-    }
-    if differs == COUNT {
-        return pages::put(page, at, b" differs in a count\n");
-    }
-    if differs == BEYOND {
-        return pages::put(page, at, b" changes a place that is not its own\n");
-    }
-    if differs == SCRATCH {
-        return pages::put(page, at, b" leaves scratch that is not zero\n");
-    }
-    pages::put(page, at, b" differs in other words\n")
 }
 
-fn say(rt: &impl Print, case: u32, differs: u32) -> io::Result<()> {
+fn say(rt: &impl Print, case: u32, differs: Difference) -> io::Result<()> {
     let mut page: [u8; 64] = [0; 64];
     let number = pages::put_word(&mut page, 0, b"case ", case);
-    let end = put_differs(&mut page, number, differs);
+    let end = pages::put(&mut page, number, text_of(differs));
     rt.write_all(pages::text(&page, end))
 }
 
@@ -142,19 +130,19 @@ fn say(rt: &impl Print, case: u32, differs: u32) -> io::Result<()> {
 #[tactic(auto, unfolding(crate::specs::Tallies::counted))]
 pub fn with_case(rt: &impl Print, t: Tally, o: Outcome) -> io::Result<Tally>
     ensures value { IfOk result (λ more. more ≡ counted t o) }
-    ensures unsaid { o.differs ≡ 0 → IsOk result }
+    ensures unsaid { o.differs ≡ None → IsOk result }
 {
-    let compared = std::num::wrapping_add_u32(t.compared, 1);
+    let compared = t.compared.wrapping_add(1);
     let cursor = o.cursor;
     let mut differ = t.differ;
-    if o.differs != NOTHING {
-        say(rt, compared, o.differs)?;
-        differ = std::num::wrapping_add_u32(differ, 1);
+    if let Some(differs) = o.differs {
+        say(rt, compared, differs)?;
+        differ = differ.wrapping_add(1);
     }
     Ok(Tally {
-        compared: compared,
-        differ: differ,
-        cursor: cursor,
+        compared,
+        differ,
+        cursor,
     })
 }
 
@@ -162,27 +150,86 @@ pub fn with_case(rt: &impl Print, t: Tally, o: Outcome) -> io::Result<Tally>
 pub fn put_tally(page: &mut [u8], at: usize, label: &[u8], t: Tally) -> usize
     ensures { Puts at (tally_text label.now t) page.old result page.new }
 {
+    let c = t.cursor;
     let compared = pages::put_word(page, at, label, t.compared);
     let differ = pages::put_word(page, compared, b"\nthat differ: ", t.differ);
-    let count = pages::put_word(page, differ, b"\nnumbers: ", t.cursor.count);
-    let sum = pages::put_word(page, count, b", sum: ", t.cursor.sum);
-    let fault = pages::put_word(page, sum, b", fault: ", t.cursor.fault);
+    let count = pages::put_word(page, differ, b"\nnumbers: ", c.count);
+    let sum = pages::put_word(page, count, b", sum: ", c.sum);
+    let fault = pages::put_word(page, sum, b", fault: ", cases::fault_number(c.fault));
     pages::put(page, fault, b"\n")
 }
 
-/// The tally at the end of the list, whose cursor is `c`; a case of another kind is a fault.
-pub fn ended(t: Tally, kind: u32, c: Cursor) -> Tally
-    ensures { result ≡ closed t kind c }
+/// The tally at the end of the list; a case of another kind is a fault.
+#[tactic(auto, unfolding(crate::specs::Tallies::closed))]
+pub fn ended(t: Tally, case: Read<Option<Kind>>) -> Tally
+    ensures { result ≡ closed t case }
 {
-    let mut cursor = c;
-    if kind != 0 {
-        cursor = cases::faulted(c, cases::UNEXPECTED);
+    let cursor = if case.value.is_some() {
+        cases::faulted(case.cursor, Fault::Unexpected)
+    } else {
+        case.cursor
+    };
+    Tally { cursor, ..t }
+}
+
+// A proved loop has to end: it counts its turns, up to more cases than a list has.
+fn replayed<F: Fn(&[u8], Kind, Cursor) -> Option<Outcome>>(
+    rt: &impl Print,
+    text: &[u8],
+    one_case: F,
+) -> io::Result<Tally>
+    requires { F.IsAlwaysCallable one_case }
+{
+    let mut t = none();
+    for _ in 0..65536 {
+        let case = kinds::next_case(text, t.cursor, t.compared);
+        let Some(kind) = case.value else {
+            return Ok(ended(t, case));
+        };
+        let Some(o) = one_case(text, kind, case.cursor) else {
+            return Ok(ended(t, case));
+        };
+        t = with_case(rt, t, o)?;
     }
-    Tally {
-        compared: t.compared,
-        differ: t.differ,
-        cursor: cursor,
+    Ok(t)
+}
+
+// The list that is read from standard input, or from the file that an argument names.
+fn replay_list<F: Fn(&[u8], Kind, Cursor) -> Option<Outcome>>(
+    rt: &(impl Env + Files + Input + Print),
+    what: &[u8],
+    file: Option<usize>,
+    one_case: F,
+) -> io::Result<()>
+    requires { F.IsAlwaysCallable one_case }
+{
+    let mut room = cases::room();
+    let n = read_list(rt, file, &mut room)?;
+    let t = replayed(rt, &room[..n], one_case)?;
+    let label: &[u8] = match file {
+        Some(_) => b" of a list that is wrong on purpose: ",
+        None => b" compared: ",
+    };
+    let mut page: [u8; 256] = [0; 256];
+    let at = pages::put(&mut page, 0, what);
+    let end = put_tally(&mut page, at, label, t);
+    rt.write_all(pages::text(&page, end))
+}
+
+/// Replays the Rust's list, which is read from standard input, and prints its tally; `one_case` answers how a case came out, and nothing for one of another kind.
+/// That list has nothing that differs, so the lists that arguments name, wrong on purpose, show that what differs is said.
+pub fn replay<F: Fn(&[u8], Kind, Cursor) -> Option<Outcome>>(
+    rt: &(impl Env + Files + Input + Print),
+    what: &[u8],
+    one_case: F,
+) -> io::Result<()>
+    requires { F.IsAlwaysCallable one_case }
+{
+    replay_list(rt, what, None, &one_case)?;
+    for i in 1..inputs::arg_count(rt) {
+        replay_list(rt, what, Some(i), &one_case)?;
     }
+    Ok(())
 }
 
 fn read_named(rt: &(impl Env + Files + Print), i: usize, room: &mut [u8]) -> io::Result<usize>
@@ -199,18 +246,18 @@ fn read_named(rt: &(impl Env + Files + Print), i: usize, room: &mut [u8]) -> io:
     inputs::read_full(&mut file, room)
 }
 
-/// Reads a list to the front of the room, and answers its length: standard input for 0, and else the file that this argument names; one that cannot be opened is
-/// said, and empty. A read or a write that fails ends this with its error, and the room then holds what was read before.
+/// Reads a list to the front of the room, and answers its length: from standard input, or from the file that an argument names; one that cannot be opened is said, and
+/// empty. A read or a write that fails ends this with its error, and the room then holds what was read before.
 pub fn read_list(
     rt: &(impl Env + Files + Input + Print),
-    i: usize,
+    file: Option<usize>,
     room: &mut [u8],
 ) -> io::Result<usize>
     ensures ok { ReadsAtMost result room.new }
     ensures err { OnErr result (length room.new ≡ length room.old) }
 {
-    if i == 0 {
-        return inputs::read_full(&mut rt.reader(), room);
+    match file {
+        Some(i) => read_named(rt, i, room),
+        None => inputs::read_full(&mut rt.reader(), room),
     }
-    read_named(rt, i, room)
 }

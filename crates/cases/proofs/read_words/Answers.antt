@@ -1,21 +1,7 @@
--- What the search leaves of `cases::read_words`.
-use Rattle.std.proofs.Common.{arith, length-set, rules}
-use Rattle.cases.specs.Text.{words_at}
-use Rattle.cases.proofs.Laws.{words_turn, words_none, filling_none, filling_turn, filling_end}
+-- `cases::read_words` meets its contract. Assumes nothing.
+use Rattle.std.proofs.Common.{◌∙◌, rules}
+use Rattle.std.proofs.lemmas.List.{map-id}
 use Rattle.cases.proofs.read_words.Goals as goal
 
-pub loop-i-init : goal.loop-i-init
-loop-i-init c = filling_none words_at _ _ _
-
-pub loop-i-smaller : goal.loop-i-smaller
-loop-i-smaller c = simp length-set (omega arith)
-
-pub loop-i-preserved : goal.loop-i-preserved
-loop-i-preserved c =
-    filling_turn words_at _ _ _ _ _ _ c.loop-i.invariant c.read_word-w.result c.read_word-w.ensures _ (words_turn _ _ _ _ _ c.read_word-w.ensures (search rules)) (search rules)
-
-pub shape_of-out : goal.shape_of-out
-shape_of-out c = c.loop-i.invariant.long
-
-pub returns : goal.returns
-returns c = let both = filling_end words_at _ _ _ _ _ _ c.loop-i.invariant (words_none _ _) (search rules) in record { out_after = both.0; value = both.1 }
+pub returns-clause-out_after : goal.returns-clause-out_after
+returns-clause-out_after c = c.read_all.ensures.out_after (λ x. x) (λ x r fits e. search rules) ∙ map-id _

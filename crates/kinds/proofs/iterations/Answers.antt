@@ -1,18 +1,9 @@
--- What the search leaves of `kinds::iterations`.
-use mathlib.Core.Path.{refl, sym, ◌∙◌}
-use Rattle.kinds.proofs.Laws.{times_fault, times_turn, times_none, iteration_fault, iteration_made}
-use borrow.Author.Rules.{rules}
+-- `kinds::iterations` meets its contract. Assumes nothing.
+use Rattle.std.proofs.Common.{rules}
+use Rattle.kinds.specs.Kinds.{behind_iteration}
+use Rattle.kinds.proofs.Laws.{iteration_fault}
 use Rattle.kinds.proofs.iterations.Goals as goal
 
-pub loop-left-init : goal.loop-left-init
-loop-left-init c = refl
-
-pub returns-then-cursor-ne0 : goal.returns-then-cursor-ne0
-returns-then-cursor-ne0 c = sym (times_fault _ (iteration_fault _ _ _) _ _ c.if-cursor-ne0.true) ∙ c.loop-left.invariant
-
-pub loop-left-preserved : goal.loop-left-preserved
-loop-left-preserved c =
-    times_turn _ _ _ _ (iteration_made _ _ _ _ _ _ c.pass-counts.ensures c.pass_state-cursor.ensures) (search rules) ∙ c.loop-left.invariant
-
 pub returns : goal.returns
-returns c = times_none _ _ _ (search rules) ∙ c.loop-left.invariant
+unfolding behind_iteration
+returns c = c.times.ensures (behind_iteration c.args.text.now c.args.n c.args.k) (record { goes = λ x r e. search rules; stays = iteration_fault _ _ _ })

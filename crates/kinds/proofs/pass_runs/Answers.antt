@@ -1,18 +1,9 @@
--- What the search leaves of `kinds::pass_runs`.
-use mathlib.Core.Path.{refl, sym, ◌∙◌}
-use Rattle.kinds.proofs.Laws.{times_fault, times_turn, times_none, run_fault, run_made}
-use borrow.Author.Rules.{rules}
+-- `kinds::pass_runs` meets its contract. Assumes nothing.
+use Rattle.std.proofs.Common.{rules}
+use Rattle.kinds.specs.Kinds.{behind_run}
+use Rattle.kinds.proofs.Laws.{run_fault}
 use Rattle.kinds.proofs.pass_runs.Goals as goal
 
-pub loop-left-init : goal.loop-left-init
-loop-left-init c = refl
-
-pub returns-then-cursor-ne0 : goal.returns-then-cursor-ne0
-returns-then-cursor-ne0 c = sym (times_fault _ (run_fault _) _ _ c.if-cursor-ne0.true) ∙ c.loop-left.invariant
-
-pub loop-left-preserved : goal.loop-left-preserved
-loop-left-preserved c =
-    times_turn _ _ _ _ (run_made _ _ _ _ c.read_size-length.ensures.value c.pass-cursor.ensures) (search rules) ∙ c.loop-left.invariant
-
 pub returns : goal.returns
-returns c = times_none _ _ _ (search rules) ∙ c.loop-left.invariant
+unfolding behind_run
+returns c = c.times.ensures (behind_run c.args.text.now) (record { goes = λ x r e. search rules; stays = run_fault _ })

@@ -5,6 +5,3 @@ use Rattle.lines.proofs.count_words.Given as goal
 
 abbrev pub invariant-loop-count : goal.invariant-loop-count
 invariant-loop-count l = l.count + words_from (1024 - l.count) l.text l.at ≡ words_from 1024 l.text l.from
-
-abbrev pub decreases-loop-count : goal.decreases-loop-count
-decreases-loop-count l = 1024 - l.count

@@ -6,4 +6,4 @@ use Rattle.refusals.proofs.put_end.Goals as goal
 
 pub returns : goal.returns
 unfolding end_text bytes
-returns c = puts_both (puts_both c.put_word-cases.ensures c.put_word-fault.ensures) c.put.ensures
+returns c = rw (← c.fault_number.ensures) (puts_both (puts_both c.put_word-cases.ensures c.put_word-fault.ensures) c.put.ensures)

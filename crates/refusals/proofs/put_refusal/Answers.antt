@@ -9,4 +9,4 @@ unfolding refusal_text bytes
 returns c =
     let one = c.put_number-number.ensures in
     let two = c.put_number-first.ensures in
-    rw (← c.of_refusal-said.ensures) (puts_both (puts_both one two) c.put_number.ensures)
+    rw (← c.from-said.ensures) (puts_both (puts_both one two) c.put_number.ensures)

@@ -1,15 +1,8 @@
--- `refusals::read_lanes` meets its contract: the part is as long as the run. Assumes nothing.
-use Rattle.std.proofs.Common.{arith, length-take, rules}
-use Rattle.refusals.specs.Given.{lanes_at}
-use Rattle.refusals.proofs.Laws.{run_made}
+-- `refusals::read_lanes` meets its contract. Assumes nothing.
+use Rattle.std.proofs.Common.{rules}
+use Rattle.refusals.specs.Given.{bits_of, lanes_at, run_in}
 use Rattle.refusals.proofs.read_lanes.Goals as goal
 
-pub slice_bounds-lanes-end-2 : goal.slice_bounds-lanes-end-2
-slice_bounds-lanes-end-2 c = simp length-take (omega arith)
-
-pub returns : goal.returns
-returns c =
-    let s = c.read_size-count in
-    let r = c.lanes-cursor in
-    let made = run_made lanes_at _ _ _ s.result s.ensures.value s.ensures.value_le_most _ r.result r.ensures.out_after r.ensures.value in
-    record { value_in_bounds = search rules; value = made.0; out_after = made.1 }
+pub returns-clause-out_after : goal.returns-clause-out_after
+unfolding run_in lanes_at
+returns-clause-out_after c = c.read_run_of.ensures.out_after bits_of (λ x r fits e. search rules)

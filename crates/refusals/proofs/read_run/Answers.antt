@@ -1,15 +1,12 @@
--- `refusals::read_run` meets its contract: the part is as long as the run. Assumes nothing.
-use Rattle.std.proofs.Common.{arith, length-take, rules}
-use Rattle.cases.specs.Text.{words_at}
-use Rattle.refusals.proofs.Laws.{run_made}
+-- `refusals::read_run` meets its contract. Assumes nothing.
+use Rattle.std.proofs.Common.{ℕ, List, ◌++◌, length, drop, ap, ◌∙◌, rules}
+use Rattle.cases.specs.Text.{size_at}
+use Rattle.std.proofs.lemmas.List.{map-id}
+use Rattle.refusals.specs.Given.{run_in}
 use Rattle.refusals.proofs.read_run.Goals as goal
 
-pub slice_bounds-read_words-end-2 : goal.slice_bounds-read_words-end-2
-slice_bounds-read_words-end-2 c = simp length-take (omega arith)
-
-pub returns : goal.returns
-returns c =
-    let s = c.read_size-count in
-    let r = c.read_words-cursor in
-    let made = run_made words_at _ _ _ s.result s.ensures.value s.ensures.value_le_most _ r.result r.ensures.out_after r.ensures.value in
-    record { value_in_bounds = search rules; value = made.0; out_after = made.1 }
+pub returns-clause-out_after : goal.returns-clause-out_after
+unfolding run_in
+returns-clause-out_after c =
+    let s = size_at (length c.args.out.now) c.args.text.now c.args.c in
+    c.read_run_of.ensures.out_after (λ x. x) (λ x r fits e. search rules) ∙ ap (λ (ws : List ℕ). ws ++ drop s.value c.args.out.now) (map-id _)

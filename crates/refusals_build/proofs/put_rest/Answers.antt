@@ -3,10 +3,10 @@ use Rattle.pages.proofs.Laws.{puts_both}
 use Rattle.refusals_build.specs.Texts.{rest_text}
 use Rattle.refusals_build.proofs.put_rest.Goals as goal
 
-pub returns-in-Done : goal.returns-in-Done
+pub returns-in-Ok : goal.returns-in-Ok
 unfolding rest_text
-returns-in-Done c = rw (c.in-Done.is, ← c.scratch_left.ensures) (puts_both c.put_graph-behind.ensures c.put_left.ensures)
+returns-in-Ok c = rw (c.in-Ok.is, ← c.scratch_left.ensures) (puts_both c.put_graph-behind.ensures c.put_left.ensures)
 
-pub returns-in-Refused : goal.returns-in-Refused
+pub returns-in-Err : goal.returns-in-Err
 unfolding rest_text
-returns-in-Refused c = rw (c.in-Refused.is, ← c.left_refused.ensures) (puts_both c.put_refusal-behind.ensures c.put_left-in-Refused.ensures)
+returns-in-Err c = rw (c.in-Err.is, ← c.left_refused.ensures) (puts_both c.put_refusal-behind.ensures c.put_left-in-Err.ensures)

@@ -3,10 +3,10 @@ use Rattle.pages.specs.Page.{bytes}
 use Rattle.refusals_relay.specs.Texts.{moved_text}
 use Rattle.refusals_relay.proofs.put_moved.Goals as goal
 
-pub returns-in-Done : goal.returns-in-Done
+pub returns-in-Ok : goal.returns-in-Ok
 unfolding moved_text bytes
-returns-in-Done c = rw c.in-Done.is c.put.ensures
+returns-in-Ok c = rw c.in-Ok.is c.put.ensures
 
-pub returns-in-Refused : goal.returns-in-Refused
+pub returns-in-Err : goal.returns-in-Err
 unfolding moved_text
-returns-in-Refused c = rw c.in-Refused.is c.put_refusal.ensures
+returns-in-Err c = rw c.in-Err.is c.put_refusal.ensures

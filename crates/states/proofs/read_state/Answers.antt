@@ -1,20 +1,23 @@
--- `states::read_state` meets its contract: each part is as long as it says. Assumes nothing.
-use native.Mathlib.Omega.{arith}
-use lib.ListN.{length-take}
-use Rattle.states.proofs.Reading.{state-short, state_made}
+-- `states::read_state` meets its contract. Assumes nothing.
+use Rattle.std.proofs.Common.{◌≡◌, ◌+◌, ◌-◌, ◌++◌, length, ap, arith, le-ltb, lt-ltb}
+use Rattle.cases.specs.Text.{words_at, behind}
+use Rattle.states.specs.Read.{State, state, state_at}
 use Rattle.states.proofs.read_state.Goals as goal
 
 pub returns-then-words-marks : goal.returns-then-words-marks
-returns-then-words-marks c = state-short _ _ _ _ _ _ _ _ c.area-lists.ensures.value c.area.ensures.value c.if-words-marks.true _ c.faulted.ensures
-
-pub slice_bounds-read_lists-end-2 : goal.slice_bounds-read_lists-end-2
-slice_bounds-read_lists-end-2 c = simp length-take (omega arith)
-
-pub read_lists-contexts-requires : goal.read_lists-contexts-requires
-read_lists-contexts-requires c = simp length-take (omega (arith, c.if-words-marks.false))
+unfolding state_at
+returns-then-words-marks c =
+    rw (← c.area-lists.ensures.value, ← c.area.ensures.value, lt-ltb _ _ c.if-words-marks.true, c.faulted.ensures)
 
 pub returns : goal.returns
+unfolding state_at
 returns c =
-    let l = c.read_lists-contexts in
-    let w = c.read_words in
-    state_made _ _ _ _ _ _ _ _ c.area-lists.ensures.value c.area.ensures.value c.if-words-marks.false _ _ l.result l.ensures l.auto.words _ w.result w.ensures.out_after w.ensures.value
+    let text = c.args.text.now in
+    let marks = c.area-lists.result + c.area.result in
+    let s = c.split_at_mut-front.ensures in
+    let w = c.read_words.ensures in
+    let pairs = length c.args.words.now - marks in
+    let long : length c.split_at_mut-front.result.1.now ≡ pairs = omega (arith, s.back_len) in
+    let front = rw s.front at c.read_lists-cursor.ensures in
+    rw (← c.area-lists.ensures.value, ← c.area.ensures.value, le-ltb _ _ c.if-words-marks.false, w.out_after, w.value, long)
+    (ap (λ (r : State). state (r.words ++ words_at pairs text r.cursor) r.floats (behind pairs text r.cursor)) front)

@@ -11,5 +11,5 @@ returns c =
     let two = c.put_word-differ.ensures in
     let three = c.put_word-count.ensures in
     let four = c.put_word-sum.ensures in
-    let five = c.put_word-fault.ensures in
+    let five = rw c.fault_number.ensures at c.put_word-fault.ensures in
     puts_both (puts_both (puts_both (puts_both (puts_both one two) three) four) five) c.put.ensures

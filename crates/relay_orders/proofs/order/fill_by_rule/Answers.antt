@@ -1,5 +1,5 @@
 -- What the search leaves of `relay_orders::order::fill_by_rule`.
-use Rattle.std.proofs.Common.{arith, rules}
+use Rattle.std.proofs.Common.{arith}
 use Rattle.relay_orders.proofs.Laws.{filling_none, filling_turn, filling_end, ruled_none, ruled_turn, ruled-end}
 use Rattle.relay_orders.proofs.order.fill_by_rule.Goals as goal
 
@@ -8,13 +8,8 @@ loop-i-init c = filling_none (ruled_none _ _ _ _ _)
 
 pub loop-i-preserved : goal.loop-i-preserved
 loop-i-preserved c =
-    let long = c.loop-i.invariant.long in
-    filling_turn c.loop-i.invariant
-    (ruled_turn _ _ _ _ _ _ c.wrapping_add_u32-up.ensures.value c.wrapping_sub_u32-down.ensures.value (search rules) c.job_of.ensures (omega arith))
-    (omega arith)
-
-pub shape_of-order : goal.shape_of-order
-shape_of-order c = c.loop-i.invariant.long
+    let here = c.loop-i-test.true in
+    filling_turn c.loop-i.invariant (ruled_turn _ _ _ _ _ _ c.job_of.ensures here) here
 
 pub returns : goal.returns
 returns c =

@@ -6,6 +6,3 @@ use Rattle.relay_orders.proofs.order.fill_by_rule.Given as goal
 
 abbrev pub invariant-loop-i : goal.invariant-loop-i
 invariant-loop-i l = Filling (ruled l.kind l.count (length l.initial.order) l.initial.up l.initial.down) l.initial.order l.order l.i (ruled l.kind l.count (length l.initial.order - l.i) l.up l.down)
-
-abbrev pub decreases-loop-i : goal.decreases-loop-i
-decreases-loop-i l = length l.initial.order - l.i

@@ -1,20 +1,7 @@
--- What the search leaves of `relay_orders::order::fill_lanes`.
-use Rattle.std.proofs.Common.{ap, ◌∙◌, arith}
-use Rattle.relay_orders.specs.Order.{drawn, lane_from}
-use Rattle.relay_orders.proofs.Laws.{filling_none, filling_turn, filling_end, drawn_none, drawn_turn, drawn-end}
+-- `relay_orders::order::fill_lanes` meets its contract. Assumes nothing.
+use Rattle.std.proofs.Common.{rules}
+use Rattle.relay_orders.specs.Order.{lane_from}
 use Rattle.relay_orders.proofs.order.fill_lanes.Goals as goal
 
-pub loop-i-init : goal.loop-i-init
-loop-i-init c = filling_none (drawn_none lane_from _ _)
-
-pub loop-i-preserved : goal.loop-i-preserved
-loop-i-preserved c =
-    let long = c.loop-i.invariant.long in
-    filling_turn c.loop-i.invariant
-    (drawn_turn lane_from _ _ _ c.after-x-in-loop-i.ensures c.lane_of.ensures (omega arith))
-    (omega arith)
-
 pub returns : goal.returns
-returns c =
-    let long = c.loop-i.invariant.long in
-    filling_end c.loop-i.invariant (drawn-end lane_from _ _ _ (omega arith)) (omega arith) ∙ ap (drawn lane_from _) c.after-x.ensures
+returns c = c.fill_from.ensures lane_from (λ x r fits e. search rules)

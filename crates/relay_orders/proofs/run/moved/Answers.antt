@@ -1,19 +1,15 @@
 -- What the search leaves of `relay_orders::run::moved`.
-use Rattle.std.proofs.Common.{refl, ◌∙◌, rules}
+use Rattle.std.proofs.Common.{refl, ◌∙◌}
 use Rattle.relay_orders.proofs.Runs.{step_made, moved_turn, moved-end}
 use Rattle.relay_orders.proofs.run.moved.Goals as goal
 
-pub loop-i-init : goal.loop-i-init
-loop-i-init c = (refl, refl, refl)
-
-pub loop-i-preserved : goal.loop-i-preserved
-loop-i-preserved c =
-    let turn =
-    moved_turn _ _ c.loop-i.words c.loop-i.floats c.loop-i.count c.args.order.now c.loop-i.i _ _ (search rules)
-    c.index.ensures (step_made _ _ _ _ _ _ _ _ _ _ _ c.move_job-answer.ensures c.refused.ensures c.wrapping_add_u32-count.ensures.value) in
-    (search rules, search rules, turn ∙ c.loop-i.invariant.2)
+pub loop-job-preserved : goal.loop-job-preserved
+loop-job-preserved c =
+    let l = c.loop-job in
+    moved_turn _ _ l.words l.floats l.count c.args.order.now l.job-index _ _ c.loop-job-test.true
+    c.index.ensures (step_made _ _ _ _ _ _ _ _ _ _ _ c.move_job-answer.ensures c.refused-count.ensures refl) ∙ l.invariant
 
 pub returns : goal.returns
 returns c =
-    moved-end _ _ c.loop-i.words c.loop-i.floats c.loop-i.count c.args.order.now c.loop-i.i (search rules)
-    ∙ c.loop-i.invariant.2
+    let l = c.loop-job in
+    moved-end _ _ l.words l.floats l.count c.args.order.now l.job-index c.loop-job-test.false ∙ l.invariant

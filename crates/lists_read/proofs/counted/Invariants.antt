@@ -1,8 +1,0 @@
--- `lists_read::counted` is safe and ends. Assumes nothing.
-use Rattle.lists_read.proofs.counted.Given as goal
-
-abbrev pub invariant-loop-turns : goal.invariant-loop-turns
-invariant-loop-turns l = Unit {0}
-
-abbrev pub decreases-loop-turns : goal.decreases-loop-turns
-decreases-loop-turns l = l.turns

@@ -1,9 +1,0 @@
--- `refusals_search::given::read_case` meets its contract. Assumes nothing.
-use Rattle.refusals_search.specs.Given.{case_at}
-use Rattle.refusals_search.proofs.given.read_case.Goals as goal
-
-pub returns : goal.returns
-unfolding case_at
-returns c =
-    let read = c.read_words-cursor.ensures in
-    rw (c.call_of.ensures, read.out_after, read.value)

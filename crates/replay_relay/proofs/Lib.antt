@@ -1,2 +1,0 @@
--- `Laws`: places of a list that may be too short.
-pub mod Laws
