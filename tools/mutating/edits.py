@@ -32,7 +32,8 @@ def close_of(text, start, left, right):
 
 def bodies(text):
     """Name, signature, start and end of the body of each function of a .rt file."""
-    for m in re.finditer(r"^\s*(?:pub )?(?:extern \"C\" )?fn (\w+)(?:<[^>\n]*>)?\(", text, re.M):
+    # type parameters may hold an arrow (`F: Fn(u32) -> T`) and types with parameters of their own
+    for m in re.finditer(r"^\s*(?:pub(?:\(\w+\))? )?(?:extern \"C\" )?fn (\w+)(?:<(?:->|<[^<>\n]*>|[^<>\n])*>)?\(", text, re.M):
         at = close_of(text, m.end() - 1, "(", ")")
         signature = text[m.end():at - 1]
         while True:
