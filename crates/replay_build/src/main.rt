@@ -57,5 +57,17 @@ fn one_case(text: &[u8], kind: Kind, c: Cursor) -> Option<Outcome> {
 }
 
 fn main(rt: HostRuntime) -> io::Result<()> {
-    tallies::replay(&rt, b"builds", one_case)
+    let mut room = cases::room();
+    let n = tallies::read_list(&rt, None, &mut room)?;
+    tallies::replay(&rt, b"builds compared: ", &room[..n], one_case)?;
+    for i in 1..inputs::arg_count(&rt) {
+        let n = tallies::read_list(&rt, Some(i), &mut room)?;
+        tallies::replay(
+            &rt,
+            b"builds of a list that is wrong on purpose: ",
+            &room[..n],
+            one_case,
+        )?;
+    }
+    Ok(())
 }

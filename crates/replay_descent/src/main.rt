@@ -165,7 +165,7 @@ fn descended(
     let mut draws: [u32; 512] = [0; 512];
     let drawn = refusals::read_run(text, c, &mut draws);
     let long = drawn.value.min(draws.len());
-    let count = cases::read_size(text, drawn.cursor, shape::MOST_ITERATIONS);
+    let count = shape::read_iterations(text, drawn.cursor);
     let behind = kinds::pass_runs(text, count.cursor, count.value);
     let o = begun(
         text,
@@ -267,5 +267,17 @@ fn one_case(text: &[u8], kind: Kind, c: Cursor) -> Option<Outcome> {
 }
 
 fn main(rt: HostRuntime) -> io::Result<()> {
-    tallies::replay(&rt, b"descents", one_case)
+    let mut room = cases::room();
+    let n = tallies::read_list(&rt, None, &mut room)?;
+    tallies::replay(&rt, b"descents compared: ", &room[..n], one_case)?;
+    for i in 1..inputs::arg_count(&rt) {
+        let n = tallies::read_list(&rt, Some(i), &mut room)?;
+        tallies::replay(
+            &rt,
+            b"descents of a list that is wrong on purpose: ",
+            &room[..n],
+            one_case,
+        )?;
+    }
+    Ok(())
 }

@@ -1,8 +1,9 @@
 // The numbers of a descent in a list, each with the most that it may be.
 ghost use Rattle.std.specs.Prelude.{◌≡◌};
+ghost use Rattle.cases.specs.Text.{size_at};
 ghost use Rattle.replay_descent.specs.Shape.{shape_at, words_long};
 
-use cases::Cursor;
+use cases::{Cursor, Read};
 
 /// No descent of a list has more iterations.
 pub const MOST_ITERATIONS: usize = 16;
@@ -33,6 +34,13 @@ pub fn read_shape(text: &[u8], c: Cursor) -> Shape
         s: s.value,
         cursor: s.cursor,
     }
+}
+
+/// Reads how many iterations a descent has.
+pub fn read_iterations(text: &[u8], c: Cursor) -> Read<usize>
+    ensures { result ≡ size_at 16 text.now c }
+{
+    cases::read_size(text, c, MOST_ITERATIONS)
 }
 
 /// How many words a state is.

@@ -3,7 +3,7 @@ ghost use Rattle.std.specs.Prelude.{◌≡◌, slice_index_or};
 ghost use Rattle.tallies.specs.Tallies.{junk};
 ghost use Rattle.replay_relay.specs.Left.{beside_at, outside_at, room_at, left_at, concerned_in, reported_at};
 
-use crate::shape::{MOST_ENTRIES, Shape};
+use crate::shape::{Shape, read_entries};
 use tallies::{Difference, JUNK, Outcome};
 
 /// The outcome with two slices beside the list's: nodes, and distances by their bits.
@@ -66,7 +66,7 @@ pub fn left(
 ) -> Outcome
     ensures { result ≡ left_at text.now o s node words.now floats.now }
 {
-    let len = cases::read_size(text, o.cursor, MOST_ENTRIES);
+    let len = read_entries(text, o.cursor);
     let p = tallies::at(o, len.cursor);
     let ours = word_at(words, relays::length_at(s.n, s.k, node));
     let q = tallies::and(p, ours == len.value as u32, Difference::Length);

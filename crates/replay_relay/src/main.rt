@@ -145,7 +145,7 @@ fn moves(
     words: &mut [u32],
     floats: &mut [f32],
 ) -> Outcome {
-    let count = cases::read_size(text, o.cursor, MOST_MOVES);
+    let count = shape::read_moves(text, o.cursor);
     let p = tallies::at(o, count.cursor);
     let mut order = [0; MOST_MOVES];
     ordered(text, p, s, jobs, &mut order[..count.value], words, floats)
@@ -203,7 +203,7 @@ fn with_lists(
     nodes: &[u32],
     dists: &[f32],
 ) -> Outcome {
-    let count = cases::read_size(text, c, MOST_JOBS);
+    let count = shape::read_jobs(text, c);
     let mut jobs = [0; 2 * MOST_JOBS];
     with_jobs(
         text,
@@ -257,5 +257,17 @@ fn one_case(text: &[u8], kind: Kind, c: Cursor) -> Option<Outcome> {
 }
 
 fn main(rt: HostRuntime) -> io::Result<()> {
-    tallies::replay(&rt, b"relays", one_case)
+    let mut room = cases::room();
+    let n = tallies::read_list(&rt, None, &mut room)?;
+    tallies::replay(&rt, b"relays compared: ", &room[..n], one_case)?;
+    for i in 1..inputs::arg_count(&rt) {
+        let n = tallies::read_list(&rt, Some(i), &mut room)?;
+        tallies::replay(
+            &rt,
+            b"relays of a list that is wrong on purpose: ",
+            &room[..n],
+            one_case,
+        )?;
+    }
+    Ok(())
 }

@@ -1,8 +1,9 @@
 // The numbers of a relay in a list, each with the most that it may be.
-ghost use Rattle.std.specs.Prelude.{◌≡◌};
+ghost use Rattle.std.specs.Prelude.{◌≡◌, ◌≤◌};
+ghost use Rattle.cases.specs.Text.{size_at};
 ghost use Rattle.replay_relay.specs.Shape.{shape_at};
 
-use cases::Cursor;
+use cases::{Cursor, Read};
 
 /// No relay of a list has more jobs.
 pub const MOST_JOBS: usize = 64;
@@ -36,4 +37,28 @@ pub fn read_shape(text: &[u8], c: Cursor) -> Shape
         k: k.value,
         cursor: k.cursor,
     }
+}
+
+/// Reads how many jobs there are.
+pub fn read_jobs(text: &[u8], c: Cursor) -> Read<usize>
+    ensures value { result ≡ size_at 64 text.now c }
+    ensures value_bound { result.value ≤ 64 }
+{
+    cases::read_size(text, c, MOST_JOBS)
+}
+
+/// Reads how many moves there are: eight of each job at most.
+pub fn read_moves(text: &[u8], c: Cursor) -> Read<usize>
+    ensures value { result ≡ size_at 512 text.now c }
+    ensures value_bound { result.value ≤ 512 }
+{
+    cases::read_size(text, c, MOST_MOVES)
+}
+
+/// Reads how many entries a move left in a list, whose room is k + 64.
+pub fn read_entries(text: &[u8], c: Cursor) -> Read<usize>
+    ensures value { result ≡ size_at 128 text.now c }
+    ensures value_bound { result.value ≤ 128 }
+{
+    cases::read_size(text, c, MOST_ENTRIES)
 }

@@ -2,7 +2,7 @@
 ghost use Rattle.std.specs.Prelude.{◌≡◌};
 ghost use Rattle.replay_search.specs.Left.{passed_at, beside_at, found_at};
 
-use crate::shape::MOST_FOUND;
+use crate::shape::read_m;
 use cases::Cursor;
 use tallies::{Difference, JUNK, Outcome};
 
@@ -11,7 +11,7 @@ use tallies::{Difference, JUNK, Outcome};
 pub fn pass_answer(text: &[u8], c: Cursor, differs: Difference) -> Outcome
     ensures { result ≡ passed_at text.now c differs }
 {
-    let m = cases::read_size(text, c, MOST_FOUND);
+    let m = read_m(text, c);
     Outcome {
         differs: Some(differs),
         cursor: cases::pass(text, m.cursor, 2 * m.value + 1),
@@ -44,7 +44,7 @@ pub fn found(
 ) -> Outcome
     ensures { result ≡ found_at text.now c m takings nodes.now bits.now }
 {
-    let listed = cases::read_size(text, c, MOST_FOUND);
+    let listed = read_m(text, c);
     if m != listed.value || nodes.len().min(bits.len()) < m {
         return pass_answer(text, c, Difference::Length);
     }

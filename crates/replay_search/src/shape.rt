@@ -1,8 +1,9 @@
 // The numbers of a search in a list, each with the most that it may be.
-ghost use Rattle.std.specs.Prelude.{◌≡◌};
+ghost use Rattle.std.specs.Prelude.{◌≡◌, ◌≤◌};
+ghost use Rattle.cases.specs.Text.{size_at};
 ghost use Rattle.replay_search.specs.Shape.{shape_at};
 
-use cases::Cursor;
+use cases::{Cursor, Read};
 
 /// No search finds more counters.
 pub const MOST_FOUND: usize = 64;
@@ -38,4 +39,12 @@ pub fn read_shape(text: &[u8], c: Cursor) -> Shape
         roots: roots.value,
         cursor: roots.cursor,
     }
+}
+
+/// Reads how many counters were found.
+pub fn read_m(text: &[u8], c: Cursor) -> Read<usize>
+    ensures value { result ≡ size_at 64 text.now c }
+    ensures value_bound { result.value ≤ 64 }
+{
+    cases::read_size(text, c, MOST_FOUND)
 }

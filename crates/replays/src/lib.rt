@@ -89,11 +89,18 @@ pub fn compare(text: &[u8], c: Cursor, ours: &[u32]) -> Read<Option<usize>>
     }
 }
 
+fn holds_only(xs: &[u32], value: u32) -> bool
+    ensures { result ≡ holds_only value xs.now }
+{
+    xs.iter().all(|x| *x == value)
+}
+
 /// Whether every place from `from` on holds `value`.
 pub fn all_words(xs: &[u32], from: usize, value: u32) -> bool
     ensures { result ≡ holds_only value (drop from xs.now) }
 {
-    xs.iter().skip(from).all(|x| *x == value)
+    // not `skip(from)`, which steps over each place in front
+    from >= xs.len() || holds_only(&xs[from..], value)
 }
 
 /// Whether every place holds 0.0, and not -0.0.

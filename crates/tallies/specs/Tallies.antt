@@ -1,6 +1,7 @@
 -- How a case came out, and how many did. Assumes nothing.
-use Rattle.std.specs.Prelude.{ℕ, ◌+◌, ◌%◌, ◌^◌, Bool, cond, List, ◌++◌, Float, Option, Some, None, is_some}
-use Rattle.std.specs.Option.{option_or}
+use Rattle.std.specs.Prelude.{◌≡◌, ℕ, zero, suc, ◌+◌, ◌%◌, ◌^◌, Bool, cond, List, ◌++◌, Float, Option, Some, None, is_some}
+use Rattle.std.specs.Borrow.{Bor}
+use Rattle.std.specs.Option.{option_or, option_map_or}
 use Rattle.cases.specs.declared.Cursor.{Cursor}
 use Rattle.cases.specs.declared.Read.{Read}
 use Rattle.cases.specs.declared.Fault.TheVariants.{Unexpected}
@@ -8,6 +9,7 @@ use Rattle.cases.specs.Text.{first, faulted, fault_number}
 use Rattle.pages.specs.Page.{bytes, labelled}
 use Rattle.replays.specs.Compare.{holds_only, all_zero}
 use Rattle.kinds.specs.declared.Kind.{Kind}
+use Rattle.kinds.specs.Kinds.{kind_at}
 use Rattle.tallies.specs.declared.Difference.{Difference}
 use Rattle.tallies.specs.declared.Difference.TheVariants.{Refused, Length, Nodes, Bits, Count, Beyond, Scratch, Words}
 use Rattle.tallies.specs.declared.Outcome.{Outcome}
@@ -48,6 +50,19 @@ counted t o =
 unfoldable pub closed : Tally → Read (Option Kind) → Tally
 closed t case =
     record { compared = t.compared; differ = t.differ; cursor = cond (is_some case.value) (faulted case.cursor Unexpected) case.cursor }
+
+-- The tally of a list with the cases from its place on, where `came` says how a case comes out, and nothing for one of a kind that is not replayed, which ends the
+-- list as its end does; the second argument is the most cases that are counted.
+unfoldable pub tallied : (List ℕ → Kind → Cursor → Option Outcome) → ℕ → List ℕ → Tally → Tally
+tallied came zero text t = t
+tallied came (suc most) text t =
+    let case = kind_at text t.compared t.cursor in
+    option_map_or (λ kind. option_map_or (λ o. tallied came most text (counted t o)) (came text kind case.cursor) (closed t case)) case.value
+    (closed t case)
+
+-- What is answered for a case of a list is what `came` says.
+abbrev pub Comes : (Bor (List ℕ) → Kind → Cursor → Option Outcome → Type 0) → (List ℕ → Kind → Cursor → Option Outcome) → Type 0
+Comes Post came = (text : Bor (List ℕ)) (kind : Kind) (c : Cursor) (o : Option Outcome) → Post text kind c o → o ≡ came text.now kind c
 
 -- What is said of a case, behind its number
 unfoldable pub differs_text : Difference → List ℕ

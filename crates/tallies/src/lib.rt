@@ -1,10 +1,13 @@
 // What tests over files read, count and say: a list, how a case came out, and how many did; and the replay of a list.
 #![tactic(auto)]
 
-ghost use Rattle.std.specs.Prelude.{◌≡◌, IfOk, IsOk, None, OnErr, length};
+ghost use Rattle.std.specs.Prelude.{◌≡◌, ℕ, List, IfOk, IsOk, None, Option, OnErr, length};
 ghost use Rattle.std.specs.Io.{ReadsAtMost};
 ghost use Rattle.pages.specs.Page.{Puts};
-ghost use Rattle.tallies.specs.Tallies.{no_case, fresh_at, moved_to, joined, scratched, counted, closed, differs_text, tally_text};
+ghost use Rattle.tallies.specs.Tallies.{no_case, fresh_at, moved_to, joined, scratched, counted, closed, differs_text, tally_text, tallied, Comes};
+ghost use Rattle.cases.specs.declared.Cursor.{Cursor};
+ghost use Rattle.kinds.specs.declared.Kind.{Kind};
+ghost use Rattle.tallies.specs.declared.Outcome.{Outcome};
 
 use cases::{Cursor, Fault, Read};
 use kinds::Kind;
@@ -179,9 +182,11 @@ fn replayed<F: Fn(&[u8], Kind, Cursor) -> Option<Outcome>>(
     one_case: F,
 ) -> io::Result<Tally>
     requires { F.IsAlwaysCallable one_case }
+    ensures { (came : List ℕ → Kind → Cursor → Option Outcome) → Comes (F.post one_case) came
+        → IfOk result (λ t. t ≡ tallied came 65536 text.now no_case) }
 {
     let mut t = none();
-    for _ in 0..65536 {
+    for _turn in 0..65536usize {
         let case = kinds::next_case(text, t.cursor, t.compared);
         let Some(kind) = case.value else {
             return Ok(ended(t, case));
@@ -194,42 +199,23 @@ fn replayed<F: Fn(&[u8], Kind, Cursor) -> Option<Outcome>>(
     Ok(t)
 }
 
-// The list that is read from standard input, or from the file that an argument names.
-fn replay_list<F: Fn(&[u8], Kind, Cursor) -> Option<Outcome>>(
-    rt: &(impl Env + Files + Input + Print),
-    what: &[u8],
-    file: Option<usize>,
-    one_case: F,
-) -> io::Result<()>
-    requires { F.IsAlwaysCallable one_case }
-{
-    let mut room = cases::room();
-    let n = read_list(rt, file, &mut room)?;
-    let t = replayed(rt, &room[..n], one_case)?;
-    let label: &[u8] = match file {
-        Some(_) => b" of a list that is wrong on purpose: ",
-        None => b" compared: ",
-    };
-    let mut page: [u8; 256] = [0; 256];
-    let at = pages::put(&mut page, 0, what);
-    let end = put_tally(&mut page, at, label, t);
-    rt.write_all(pages::text(&page, end))
-}
-
-/// Replays the Rust's list, which is read from standard input, and prints its tally; `one_case` answers how a case came out, and nothing for one of another kind.
-/// That list has nothing that differs, so the lists that arguments name, wrong on purpose, show that what differs is said.
+/// Replays a list and prints its tally, behind `label`, which it answers; `one_case` answers how a case came out, and nothing for one of another kind.
+/// The Rust's list has nothing that differs, so the lists that arguments name, wrong on purpose, show that what differs is said.
 pub fn replay<F: Fn(&[u8], Kind, Cursor) -> Option<Outcome>>(
-    rt: &(impl Env + Files + Input + Print),
-    what: &[u8],
+    rt: &impl Print,
+    label: &[u8],
+    text: &[u8],
     one_case: F,
-) -> io::Result<()>
+) -> io::Result<Tally>
     requires { F.IsAlwaysCallable one_case }
+    ensures { (came : List ℕ → Kind → Cursor → Option Outcome) → Comes (F.post one_case) came
+        → IfOk result (λ t. t ≡ tallied came 65536 text.now no_case) }
 {
-    replay_list(rt, what, None, &one_case)?;
-    for i in 1..inputs::arg_count(rt) {
-        replay_list(rt, what, Some(i), &one_case)?;
-    }
-    Ok(())
+    let t = replayed(rt, text, one_case)?;
+    let mut page: [u8; 256] = [0; 256];
+    let end = put_tally(&mut page, 0, label, t);
+    rt.write_all(pages::text(&page, end))?;
+    Ok(t)
 }
 
 fn read_named(rt: &(impl Env + Files + Print), i: usize, room: &mut [u8]) -> io::Result<usize>

@@ -1,0 +1,2 @@
+-- Laws of the loop over a list's cases.
+pub mod Turns
