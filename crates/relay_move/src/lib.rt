@@ -75,7 +75,12 @@ fn move_half(
     };
     let equal = node.0 == other.0;
     let next = list_step(words, floats, n, k, node, e, equal, steps, flags);
-    jobs::keep(&mut words[at..end], half, next.taken, next.longer);
+    jobs::keep(
+        &mut words[at..end],
+        half,
+        u32::from(next.taken),
+        u32::from(next.longer),
+    );
 }
 
 /// The next step of job `job`, which is not finished: of its first half, or where that is done of its second
