@@ -42,7 +42,9 @@ fn list_step(
     let nodes = &mut words[from..to];
     let dists = &mut floats[from..to];
     let next = halves::next_flags(nodes, dists, len, k, e, equal, steps, flags);
-    let m = halves::next_list(nodes, dists, len, e, steps, flags);
+    let taken = u32::from(flags.taken);
+    let longer = u32::from(flags.longer);
+    let m = halves::next_list(nodes, dists, len, e, steps, taken, longer);
     words[at] = m as u32;
     next
 }
