@@ -4,7 +4,8 @@ use mathlib.Core.Bool.{Bool, true, false, not, ◌&&◌}
 use mathlib.Core.List.{List, ◌∷◌, ◌++◌}
 use Prim.Native.Nat.{ℕ, zero, suc, ◌+◌, ◌-◌, ◌≤◌, ◌<◌}
 use native.Mathlib.Omega.{arith}
-use lib.Dec.{ltb}
+use borrow.Author.Tests.{ne_eqb}
+use lib.Dec.{eqb, ltb}
 use lib.ListN.{length, take, drop, set, replicate, length-set, take-append-drop}
 use lib.Seq.{drop_at, drop-drop, drop-cons, drop-set-add, length-take-le}
 use lib.Ieee.{Float}
@@ -149,10 +150,19 @@ module _ {ns : List ℕ} {ds : List Float} {len : ℕ} (room : Roomed ns ds len)
 
 -- ---- stages at which the list stays
 
-pub stays : (e : Neighbor) (l : List Neighbor) (steps : ℕ) (t longer : Bool) → steps ≤ 3 → (steps ≡ 1 → t ≡ false) → (steps ≡ 3 → longer ≡ false) → next_list e l (stage_in steps t longer) ≡ l
-unfolding next_list stage_in
-stays e l zero t longer h a b = refl
-stays e l (suc zero) t longer h a b = rw (a refl)
-stays e l (suc (suc zero)) t longer h a b = refl
-stays e l (suc (suc (suc zero))) t longer h a b = rw (b refl)
-stays e l (suc (suc (suc (suc s)))) t longer h a b = absurd (omega arith)
+module _ (e : Neighbor) (l : List Neighbor) where
+  pub stays_left : (steps t : ℕ) (longer : Bool) → steps ≡ 1 → (t ≡ 1 → ⊥) → next_list e l (stage_in steps (eqb t 1) longer) ≡ l
+  unfolding next_list stage_in
+  stays_left steps t longer s h = rw (s, ne_eqb t 1 h)
+
+  pub stays_short : (steps longer : ℕ) (t : Bool) → steps ≡ 3 → (longer ≡ 1 → ⊥) → next_list e l (stage_in steps t (eqb longer 1)) ≡ l
+  unfolding next_list stage_in
+  stays_short steps longer t s h = rw (s, ne_eqb longer 1 h)
+
+  pub stays : (steps : ℕ) (t longer : Bool) → steps ≤ 3 → (steps ≡ 1 → t ≡ false) → (steps ≡ 3 → longer ≡ false) → next_list e l (stage_in steps t longer) ≡ l
+  unfolding next_list stage_in
+  stays zero t longer h a b = refl
+  stays (suc zero) t longer h a b = rw (a refl)
+  stays (suc (suc zero)) t longer h a b = refl
+  stays (suc (suc (suc zero))) t longer h a b = rw (b refl)
+  stays (suc (suc (suc (suc s)))) t longer h a b = absurd (omega arith)

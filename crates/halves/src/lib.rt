@@ -1,7 +1,7 @@
 // One step of half a job, on the list that it offers to: what the job keeps, and what becomes of the list in its room.
 #![tactic(auto)]
 
-ghost use Rattle.std.specs.Prelude.{◌≡◌, true, ◌≤◌, ◌<◌, length};
+ghost use Rattle.std.specs.Prelude.{◌≡◌, ◌≤◌, ◌<◌, eqb, length};
 ghost use Rattle.rules.specs.Lists.{entries};
 ghost use Rattle.rules.specs.RelayPlaces.{stage_in};
 ghost use Rattle.halves.specs.Halves.{NextFlags, Roomed, NextList};
@@ -58,16 +58,17 @@ pub fn next_list(
     len: usize,
     e: Neighbor,
     steps: usize,
-    flags: Flags,
+    taken: u32,
+    longer: u32,
 ) -> usize
     requires le_len { (1 ≤ len) × (steps ≤ 3) × Roomed nodes.old dists.old len }
-    requires len_in_bounds { steps ≡ 1 → flags.taken ≡ true → len < length nodes.old }
-    ensures { NextList nodes.old dists.old len e (stage_in steps flags.taken flags.longer) nodes.new dists.new result }
+    requires len_in_bounds { steps ≡ 1 → taken ≡ 1 → len < length nodes.old }
+    ensures { NextList nodes.old dists.old len e (stage_in steps (eqb taken 1) (eqb longer 1)) nodes.new dists.new result }
 {
-    if steps == 1 && flags.taken {
+    if steps == 1 && taken == 1 {
         return lists::push(nodes, dists, len, e);
     }
-    if steps == 3 && flags.longer {
+    if steps == 3 && longer == 1 {
         return lists::pop(nodes, dists, len);
     }
     len

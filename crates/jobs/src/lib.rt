@@ -70,11 +70,11 @@ pub fn pending(words: &[u32], w: NodeId) -> usize
 }
 
 /// Keeps what one step of a job left: one more step done, and the report and measure of the half whose words are at `half`.
-pub fn keep(words: &mut [u32], half: usize, taken: bool, longer: bool)
+pub fn keep(words: &mut [u32], half: usize, taken: u32, longer: u32)
     requires { (15 ≤ length words.old) × (half ≤ 5) × (get_or words.old 2 0 ≤ 7) }
-    ensures { words.new ≡ kept_words words.old half (bit taken) (bit longer) }
+    ensures { words.new ≡ kept_words words.old half taken longer }
 {
     words[2] += 1;
-    words[half] = u32::from(taken);
-    words[half + 1] = u32::from(longer);
+    words[half] = taken;
+    words[half + 1] = longer;
 }

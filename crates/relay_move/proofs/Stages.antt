@@ -6,6 +6,7 @@ use native.Mathlib.Omega.{arith}
 use borrow.Author.Tests.{eqb-true, eqb-false, eq-eqb, ne_eqb}
 use lib.Dec.{eqb}
 use lib.ListN.{get_or}
+use Rattle.std.specs.Int.{from_bool}
 use Rattle.rules.specs.Relay.{Stage, fresh, looked, pushed, measured, popped, steps_of, is_popped, taken_of, longer_of, bit, Job}
 use Rattle.rules.specs.Places.{padded}
 use Rattle.rules.specs.RelayPlaces.{job_words, stage_in}
@@ -41,6 +42,11 @@ steps_few (popped t m) h = let z : ◌≡◌ {A = ℕ} 0 1 = cc in absurd (omega
 pub bit-few : (b : Bool) → bit b ≤ 1
 bit-few true = omega arith
 bit-few false = omega arith
+
+-- a flag as the number that it becomes
+pub bit-from : (b : Bool) → from_bool b ≡ bit b
+bit-from true = refl
+bit-from false = refl
 
 pub eqb_turned : (a b : ℕ) → eqb a b ≡ eqb b a
 eqb_turned a b = go (eqb a b) refl

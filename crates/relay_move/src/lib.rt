@@ -42,7 +42,9 @@ fn list_step(
     let nodes = &mut words[from..to];
     let dists = &mut floats[from..to];
     let next = halves::next_flags(nodes, dists, len, k, e, equal, steps, flags);
-    let m = halves::next_list(nodes, dists, len, e, steps, flags);
+    let taken = u32::from(flags.taken);
+    let longer = u32::from(flags.longer);
+    let m = halves::next_list(nodes, dists, len, e, steps, taken, longer);
     words[at] = m as u32;
     next
 }
@@ -75,7 +77,12 @@ fn move_half(
     };
     let equal = node.0 == other.0;
     let next = list_step(words, floats, n, k, node, e, equal, steps, flags);
-    jobs::keep(&mut words[at..end], half, next.taken, next.longer);
+    jobs::keep(
+        &mut words[at..end],
+        half,
+        u32::from(next.taken),
+        u32::from(next.longer),
+    );
 }
 
 /// The next step of job `job`, which is not finished: of its first half, or where that is done of its second

@@ -1,13 +1,16 @@
 -- Zeros from a place on, and a test of every place below a number. Assumes nothing.
 use mathlib.Core.Path.{◌≡◌, refl, sym, ap, ◌∙◌}
 use mathlib.Core.Bool.{Bool, true, false, ◌&&◌}
-use Prim.Native.Nat.{ℕ, zero, suc, ◌+◌, ◌<◌}
+use mathlib.Core.List.{List}
+use Prim.Native.Nat.{ℕ, zero, suc, ◌+◌, ◌-◌, ◌<◌, min}
 use native.Mathlib.Nat.{not-suc-le-zero}
 use native.Mathlib.Numerals.{add-one}
 use native.Mathlib.Omega.{arith}
 use borrow.Author.Tests.{ltb-true, ltb-false}
 use lib.Dec.{eqb, ltb}
+use lib.ListN.{length, take, drop}
 use lib.Ieee.{Float, nan, inf, fin, binary32, is_nan, to_bits}
+use Rattle.std.proofs.lemmas.List.{take_rest, drop_min}
 use Rattle.zeros.specs.Zeros.{all_below}
 
 -- a NaN's bits are not zero
@@ -16,6 +19,10 @@ unfolding is_nan to_bits
 bits_nan nan e = refl
 bits_nan (inf s) e = cc
 bits_nan (fin s m d) e = cc
+
+-- a range that begins at a place, or at the end where the place is beyond it
+pub from_within : {A : Type 0} (xs : List A) (from m : ℕ) → m ≡ min from (length xs) → take (length xs - m) (drop m xs) ≡ drop from xs
+from_within xs from m e = take_rest xs m ∙ ap (λ (i : ℕ). drop i xs) e ∙ drop_min from xs
 
 -- ---- every place below a number
 

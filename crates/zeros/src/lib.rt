@@ -15,16 +15,17 @@ pub fn zero_bits(x: f32) -> bool
 }
 
 /// Whether every word from `from` on is zero.
-#[tactic(auto, unfolding(crate::specs::Zeros::zeros))]
 pub fn words_zero(words: &[u32], from: usize) -> bool
     ensures { result ≡ zeros (drop from words.now) }
 {
-    words.iter().skip(from).all(|&w| w == 0)
+    words[from.min(words.len())..].iter().all(|&w| w == 0)
 }
 
 /// Whether all bits of every float from `from` on are zero.
 pub fn floats_zero(floats: &[f32], from: usize) -> bool
     ensures { result ≡ zeros (map (to_bits binary32) (drop from floats.now)) }
 {
-    floats.iter().skip(from).all(|&x| zero_bits(x))
+    floats[from.min(floats.len())..]
+        .iter()
+        .all(|&x| zero_bits(x))
 }

@@ -6,14 +6,14 @@ use lib.ListN.{drop}
 use Rattle.std.proofs.Common.{rules, tests}
 use Rattle.std.proofs.lemmas.List.Folds.{list_all-map}
 use Rattle.std.proofs.lemmas.Iterator.{YieldsList-from_slice}
-use Rattle.std.proofs.lemmas.Iterator.Adapters.{YieldsList-from_skip}
 use Rattle.std.proofs.lemmas.Iterator.Search.{all_from_yields_List}
 use Rattle.zeros.specs.Zeros.{zeros}
+use Rattle.zeros.proofs.Laws.{from_within}
 use Rattle.zeros.proofs.floats_zero.Goals as goal
 
 pub returns : goal.returns
 unfolding zeros
 returns c =
     all_from_yields_List (λ (x : Float). eqb (to_bits binary32 x) 0) _ _ _ c.all.ensures.ran
-    (YieldsList-from_skip c.args.from (YieldsList-from_slice c.args.floats.now cc) c.skip.ensures.count) (λ x b q k. search (rules, tests))
+    (YieldsList-from_slice (drop c.args.from c.args.floats.now) (c.iter.ensures.rest ∙ from_within c.args.floats.now c.args.from c.min.result c.min.ensures)) (λ x b q k. search (rules, tests))
     ∙ sym (list_all-map (λ x. eqb x 0) (to_bits binary32) (drop c.args.from c.args.floats.now))
