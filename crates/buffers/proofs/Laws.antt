@@ -41,3 +41,11 @@ module _ {A : Type 0} where
       inv.list ∙ ap (λ (l : List A). l ++ drop i dst) (take_all i (replicate (length dst) a) (rw (length-replicate (length dst) a) h))
       ∙ ap (λ (l : List A). replicate (length dst) a ++ l) (drop_of_length-le dst {i = i} h)
       ∙ append-nil (replicate (length dst) a)
+
+  -- the whole of src stands in place of dst
+  pub copied-all : {src dst now : List A} {i : ℕ} → Written src dst now i → length dst ≡ length src → length dst ≤ i → now ≡ src
+  unfolding over
+  copied-all {src} {dst} {now} {i} inv e h =
+      inv.list ∙ ap (λ (l : List A). l ++ drop i dst) (take_all i src (rw (← e) h))
+      ∙ ap (λ (l : List A). src ++ l) (drop_of_length-le dst {i = i} h)
+      ∙ append-nil src

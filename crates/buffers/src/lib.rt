@@ -24,13 +24,24 @@ pub fn zero_floats(floats: &mut [f32])
     floats.fill(0.0);
 }
 
+/// Writes `src` over the whole of `dst`. The library's `copy_from_slice` would need `memmove` of whoever links the archive.
+pub fn copy_all<T: Copy>(src: &[T], dst: &mut [T])
+    requires { length dst.old ≡ length src.now }
+    ensures len { length dst.new ≡ length dst.old }
+    ensures after { dst.new ≡ src.now }
+{
+    for i in 0..dst.len() {
+        dst[i] = src[i];
+    }
+}
+
 /// Writes the first `m` of `src` over the first `m` of `dst`.
 #[tactic(auto, unfolding(rules::specs::Loops::over))]
 pub fn copy_front<T: Copy>(m: usize, src: &[T], dst: &mut [T])
     requires { (m ≤ length src.now) × (m ≤ length dst.old) }
     ensures { dst.new ≡ over m src.now dst.old }
 {
-    dst[..m].copy_from_slice(&src[..m]);
+    copy_all(&src[..m], &mut dst[..m]);
 }
 
 /// Writes the first `m` of `src` over the first `m` of `dst`.

@@ -173,7 +173,7 @@ fn turn_round(nodes: &[u32], len: usize, out: &mut [u32])
     requires { (len ≤ length nodes.now) × (len ≤ length out.old) }
     ensures { out.new ≡ over len (reverse (take len nodes.now)) out.old }
 {
-    out[..len].copy_from_slice(&nodes[..len]);
+    buffers::copy_all(&nodes[..len], &mut out[..len]);
     out[..len].reverse();
 }
 

@@ -23,7 +23,7 @@ fn meet_contexts(
     let n = counters.n;
     let lists = n * k;
     let marks = lists + 260 * n;
-    scratch[..260 * n].copy_from_slice(&words[lists..marks]);
+    buffers::copy_all(&words[lists..marks], &mut scratch[..260 * n]);
     passes::meet_all(counters, k, scratch, words, floats)
 }
 

@@ -12,5 +12,5 @@ pub fn put_members(src: &[u32], dst: &mut [u32])
     let len = src.len();
     dst.fill(0);
     dst[0] = len as u32;
-    dst[1..=len].copy_from_slice(src);
+    buffers::copy_all(src, &mut dst[1..=len]);
 }

@@ -101,8 +101,8 @@ fn write_lists(
     for w in 0..n {
         let from = w * (k + 64);
         let at = w * k;
-        nodes[at..at + k].copy_from_slice(&words[from..from + k]);
-        distances[at..at + k].copy_from_slice(&floats[from..from + k]);
+        buffers::copy_all(&words[from..from + k], &mut nodes[at..at + k]);
+        buffers::copy_all(&floats[from..from + k], &mut distances[at..at + k]);
     }
 }
 

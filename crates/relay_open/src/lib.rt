@@ -21,7 +21,7 @@ fn put_room<T: Copy>(list: &[T], room: &mut [T], zero: T)
     ensures { room.new ≡ padded (length room.old) zero list.now }
 {
     let k = list.len();
-    room[..k].copy_from_slice(list);
+    buffers::copy_all(list, &mut room[..k]);
     room[k..].fill(zero);
 }
 

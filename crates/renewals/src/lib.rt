@@ -25,7 +25,7 @@ fn renew_lists(
     let mut found = [0u32; 64];
     let drawn = renews::renew_all(words, n, k, s, draws, &mut found, scratch);
     unvisits::unvisit_all(words, marks, n, scratch);
-    words[lists..marks].copy_from_slice(&scratch[..260 * n]);
+    buffers::copy_all(&scratch[..260 * n], &mut words[lists..marks]);
     drawn
 }
 

@@ -11,7 +11,7 @@ meet_all-requires c =
     let a = c.args in
     let e : a.counters.n * a.k + 260 * a.counters.n - a.counters.n * a.k ≡ 260 * a.counters.n = omega arith in
     let room = p.2 in
-    (p.0, walkable_copy p.0 p.1 _ room e c.copy_from_slice.ensures.after)
+    (p.0, walkable_copy p.0 p.1 _ room e c.copy_all.ensures.after)
 
 pub returns : goal.returns
 returns c =
@@ -19,4 +19,4 @@ returns c =
     let a = c.args in
     let e : a.counters.n * a.k + 260 * a.counters.n - a.counters.n * a.k ≡ 260 * a.counters.n = omega arith in
     let room = p.2 in
-    met_in p.0 p.1 _ room e c.copy_from_slice.ensures.after _ c.meet_all.ensures
+    met_in p.0 p.1 _ room e c.copy_all.ensures.after _ c.meet_all.ensures

@@ -4,4 +4,4 @@ use Rattle.members.proofs.Laws.{put}
 use Rattle.members.proofs.put_members.Goals as goal
 
 pub returns : goal.returns
-returns c = put c.args.src.now c.args.dst.now _ _ _ c.requires.1 (c.fill.ensures.after (λ y e. e)) (omega arith) c.copy_from_slice.ensures.after
+returns c = put c.args.src.now c.args.dst.now _ _ _ c.requires.1 (c.fill.ensures.after (λ y e. e)) (omega arith) c.copy_all.ensures.after

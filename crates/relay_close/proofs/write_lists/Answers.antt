@@ -20,4 +20,4 @@ loop-w-preserved c =
     let test = c.loop-w-test.true in
     let e : w * (k + 64) + k - w * (k + 64) ≡ k = omega arith in
     let f : w * k + k - w * k ≡ k = omega arith in
-    (nodes_turn d inv.0 test _ _ e f c.copy_from_slice.ensures.after, floats_turn d inv.1 test _ _ e f c.copy_from_slice-in-loop-w.ensures.after)
+    (nodes_turn d inv.0 test _ _ e f c.copy_all.ensures.after, floats_turn d inv.1 test _ _ e f c.copy_all-in-loop-w.ensures.after)

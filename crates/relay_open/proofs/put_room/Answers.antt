@@ -10,5 +10,5 @@ returns g c =
     let p = c.requires in
     let list = c.args.list.now in
     let room = c.args.room.now in
-    roomed c.args.zero _ list room (c.copy_from_slice.new.self ++ drop (length list) room) c.fill.new.self p.long
-    (ap (λ (l : List g.row.T.Denot). l ++ drop (length list) room) c.copy_from_slice.ensures.after) refl (c.fill.ensures.after p.copies.1)
+    roomed c.args.zero _ list room (c.copy_all.new.dst ++ drop (length list) room) c.fill.new.self p.long
+    (ap (λ (l : List g.row.T.Denot). l ++ drop (length list) room) c.copy_all.ensures.after) refl (c.fill.ensures.after p.copies.1)

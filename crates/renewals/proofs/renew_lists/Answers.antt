@@ -22,4 +22,4 @@ returns c =
     let long = R.long in
     let room = p.3 in
     let e : a.n * a.k + 260 * a.n - a.n * a.k ≡ 260 * a.n = omega arith in
-    lists-renewed _ _ _ _ p.0 R (omega arith) c.unvisit_all.ensures e c.copy_from_slice.ensures.after
+    lists-renewed _ _ _ _ p.0 R (omega arith) c.unvisit_all.ensures e c.copy_all.ensures.after
