@@ -99,7 +99,7 @@ fn slots(
     ensures { Sliced (lent params counters.entry.dimension counters.entry.n counters.entry.lanes.now graph.old words.old floats.old) graph.new words.new floats.new }
 {
     taught::exact_all(counters, params.init_k, floats, words);
-    let count = params.init_k.min(counters.n - 1);
+    let count = table::fewer(params.init_k, counters.n - 1);
     pruned::prune_all(
         counters,
         params.init_k,

@@ -129,7 +129,7 @@ fn work(
             Err(Refusal::Pair(v, NodeId(n as u32)))
         }
         Ok(takings) => {
-            let m = k.min(roots.len());
+            let m = table::fewer(k, roots.len());
             give(n, m, scratch_u, scratch_f, result_nodes, result_bits);
             scratch_u.fill(0);
             scratch_f.fill(0.0);

@@ -102,7 +102,7 @@ fn start(
     let n = asked.counters.n;
     let count = roots_found(asked, roots, k, words, floats)?;
     mark_all(n, roots, words);
-    let m = k.min(count);
+    let m = table::fewer(k, count);
     enter(n, words, floats, m);
     Ok(m)
 }
