@@ -136,8 +136,8 @@ fn work(
         &mut pool,
     );
     rows::finish(counters.n, params.index_size, graph, floats);
-    words.fill(0);
-    floats.fill(0.0);
+    buffers::zero_words(words);
+    buffers::zero_floats(floats);
 }
 
 /// Teaches a game: writes its graph, `index_size` places a counter (hora's `build`). Rows 1, 2, 3, 4 (the sizes of the parameters), 5, 6

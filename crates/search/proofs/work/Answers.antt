@@ -22,8 +22,8 @@ give-requires c =
 
 pub returns-in-Err : goal.returns-in-Err
 returns-in-Err c =
-    worked-unfit _ c.in-Err.is c.walk-r.ensures (c.fill.ensures.after (λ y h. h)) (c.fill-in-Err.ensures.after (λ y h. h))
+    worked-unfit _ c.in-Err.is c.walk-r.ensures c.zero_words.ensures c.zero_floats.ensures
 
 pub returns-in-Ok : goal.returns-in-Ok
 returns-in-Ok c =
-    worked-found _ c.in-Ok.is c.walk-r.ensures c.fewer-m.ensures c.give.ensures.result_nodes_after c.give.ensures.result_bits_after (c.fill-in-Ok.ensures.after (λ y h. h)) (c.fill-in-Ok-2.ensures.after (λ y h. h))
+    worked-found _ c.in-Ok.is c.walk-r.ensures c.fewer-m.ensures c.give.ensures.result_nodes_after c.give.ensures.result_bits_after c.zero_words-in-Ok.ensures c.zero_floats-in-Ok.ensures
