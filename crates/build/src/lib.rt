@@ -99,7 +99,7 @@ fn slots(
     ensures { Sliced (lent params counters.entry.dimension counters.entry.n counters.entry.lanes.now graph.old words.old floats.old) graph.new words.new floats.new }
 {
     taught::exact_all(counters, params.init_k, floats, words);
-    let count = params.init_k.min(counters.n - 1);
+    let count = table::fewer(params.init_k, counters.n - 1);
     pruned::prune_all(
         counters,
         params.init_k,
@@ -136,8 +136,8 @@ fn work(
         &mut pool,
     );
     rows::finish(counters.n, params.index_size, graph, floats);
-    words.fill(0);
-    floats.fill(0.0);
+    buffers::zero_words(words);
+    buffers::zero_floats(floats);
 }
 
 /// Teaches a game: writes its graph, `index_size` places a counter (hora's `build`). Rows 1, 2, 3, 4 (the sizes of the parameters), 5, 6

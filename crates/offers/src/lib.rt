@@ -23,8 +23,8 @@ fn gather(
     requires { Row w nodes.now dists.now pool_nodes.old pool_dists.old }
     ensures { entries (w + 1) pool_nodes.new pool_dists.new ≡ sort (entries w nodes.now dists.now ++ (offer ∷ [])) }
 {
-    buffers::copy_front(w, nodes, pool_nodes);
-    buffers::copy_front(w, dists, pool_dists);
+    buffers::copy_words(w, nodes, pool_nodes);
+    buffers::copy_floats(w, dists, pool_dists);
     pool_nodes[w] = offer.node.0;
     pool_dists[w] = offer.distance;
     lists::sort(pool_nodes, pool_dists, w + 1);

@@ -101,7 +101,7 @@ fn give(
 {
     let from = n + n;
     let to = from + 64;
-    buffers::copy_front(m, &words[from..to], result_nodes);
+    buffers::copy_words(m, &words[from..to], result_nodes);
     buffers::copy_bits(m, &floats[from..to], result_bits);
 }
 
@@ -124,15 +124,15 @@ fn work(
     let r = walk::walk(asked, graph, index_size, roots, k, scratch_u, scratch_f);
     match r {
         Err(v) => {
-            scratch_u.fill(0);
-            scratch_f.fill(0.0);
+            buffers::zero_words(scratch_u);
+            buffers::zero_floats(scratch_f);
             Err(Refusal::Pair(v, NodeId(n as u32)))
         }
         Ok(takings) => {
-            let m = k.min(roots.len());
+            let m = table::fewer(k, roots.len());
             give(n, m, scratch_u, scratch_f, result_nodes, result_bits);
-            scratch_u.fill(0);
-            scratch_f.fill(0.0);
+            buffers::zero_words(scratch_u);
+            buffers::zero_floats(scratch_f);
             Ok(SearchCounts { m, takings })
         }
     }

@@ -81,7 +81,7 @@ fn mark_all(n: usize, roots: &[u32], words: &mut [u32])
     requires n_in_bounds { n + n + 128 ≤ length words.old }
     ensures { Marked n roots.now words.old words.new }
 {
-    words[..n].fill(0);
+    buffers::zero_words(&mut words[..n]);
     mark_roots(&mut words[..n], roots);
 }
 
@@ -102,7 +102,7 @@ fn start(
     let n = asked.counters.n;
     let count = roots_found(asked, roots, k, words, floats)?;
     mark_all(n, roots, words);
-    let m = k.min(count);
+    let m = table::fewer(k, count);
     enter(n, words, floats, m);
     Ok(m)
 }

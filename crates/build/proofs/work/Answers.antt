@@ -12,4 +12,4 @@ link_all-requires c =
 pub returns : goal.returns
 returns c =
     let linked = c.link_all in
-    worked c.requires c.slots.ensures linked.ensures c.finish.ensures linked.auto.pool_nodes linked.auto.dists (c.fill.ensures.after (λ y h. h)) (c.fill-2.ensures.after (λ y h. h))
+    worked c.requires c.slots.ensures linked.ensures c.finish.ensures linked.auto.pool_nodes linked.auto.dists c.zero_words.ensures c.zero_floats.ensures

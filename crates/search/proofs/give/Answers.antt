@@ -20,4 +20,4 @@ copy_bits-requires c =
 
 pub returns : goal.returns
 returns c =
-    record { result_nodes_after = c.copy_front.ensures ∙ nodes_given _ _ _ _ c.requires.room c.requires.m_bound.0 _; result_bits_after = c.copy_bits.ensures ∙ bits_given _ _ _ _ c.requires.room c.requires.m_bound.0 _ }
+    record { result_nodes_after = c.copy_words.ensures ∙ nodes_given _ _ _ _ c.requires.room c.requires.m_bound.0 _; result_bits_after = c.copy_bits.ensures ∙ bits_given _ _ _ _ c.requires.room c.requires.m_bound.0 _ }

@@ -13,7 +13,7 @@ pub give-requires : goal.give-requires
 give-requires c =
     let ready = c.requires in
     let w = c.walk-r.ensures in
-    let least = c.min-m.ensures in
+    let least = c.fewer-m.ensures in
     let few = ready.few in
     let nodes = ready.nodes_room in
     let bits = ready.bits_room in
@@ -22,8 +22,8 @@ give-requires c =
 
 pub returns-in-Err : goal.returns-in-Err
 returns-in-Err c =
-    worked-unfit _ c.in-Err.is c.walk-r.ensures (c.fill.ensures.after (λ y h. h)) (c.fill-in-Err.ensures.after (λ y h. h))
+    worked-unfit _ c.in-Err.is c.walk-r.ensures c.zero_words.ensures c.zero_floats.ensures
 
 pub returns-in-Ok : goal.returns-in-Ok
 returns-in-Ok c =
-    worked-found _ c.in-Ok.is c.walk-r.ensures c.min-m.ensures c.give.ensures.result_nodes_after c.give.ensures.result_bits_after (c.fill-in-Ok.ensures.after (λ y h. h)) (c.fill-in-Ok-2.ensures.after (λ y h. h))
+    worked-found _ c.in-Ok.is c.walk-r.ensures c.fewer-m.ensures c.give.ensures.result_nodes_after c.give.ensures.result_bits_after c.zero_words-in-Ok.ensures c.zero_floats-in-Ok.ensures

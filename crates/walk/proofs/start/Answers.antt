@@ -34,7 +34,7 @@ enter-requires c =
     let few = roots.few in
     let fit = roots-fit _ _ roots in
     let count = counted-few c.in_ok-count.was c.roots_found.ensures in
-    let least = c.min-m.ensures in
+    let least = c.fewer-m.ensures in
     record { room = room-kept c.requires.room (marked.words ∙ c.roots_found.ensures.words) c.roots_found.ensures.floats; m_bound = (omega arith, omega arith) }
 
 pub shape_of-words : goal.shape_of-words
@@ -45,4 +45,4 @@ shape_of-floats c = c.enter.ensures.kept.floats ∙ c.roots_found.ensures.floats
 
 pub returns : goal.returns
 returns c =
-    started_in c.requires.roots (rw c.in_ok-count.was at c.roots_found.ensures) c.mark_all.ensures c.min-m.ensures c.enter.ensures c.requires.room
+    started_in c.requires.roots (rw c.in_ok-count.was at c.roots_found.ensures) c.mark_all.ensures c.fewer-m.ensures c.enter.ensures c.requires.room
