@@ -10,6 +10,8 @@ import sys
 
 ENTRIES = ["build", "search", "begin", "iterate", "open", "move_job", "close"]
 RETURN_ADDRESS = 8
+# The start of a function, whose own name may have angles, and no place within one
+TARGET = re.compile(r"([0-9a-f]+) <((?:(?!\+0x[0-9a-f]+>$).)+)>$")
 LINE = re.compile(r"\s*([0-9a-f]+):\s+(?:bnd |notrack |rep |repz |data16 )*(\S+)\s*(.*)")
 
 
@@ -83,7 +85,7 @@ def most(start, found, above=()):
     heights = walked(code)
     best, chain = max(heights.values()), []
     for at, operation, operands in code:
-        called, target = operation.startswith("call"), re.match(r"([0-9a-f]+) <([^>+]+)>", operands)
+        called, target = operation.startswith("call"), TARGET.match(operands)
         if called and not target:
             raise SystemExit(f"a call by a pointer in {name}")
         # A jump to the start of another function stands for a call at its end; one to its own start is a loop.
