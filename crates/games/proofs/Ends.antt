@@ -8,13 +8,13 @@ use Rattle.lines.specs.declared.Part.TheVariants.{Line}
 use Rattle.lines.specs.declared.Word.{Word}
 use Rattle.lines.specs.Words.{end_from, word_at, words_from, spelt}
 use Rattle.cases.specs.Text.{area_of}
-use Rattle.games.proofs.Results.{then-kept, on-kept, on-kept_ok}
+use Rattle.games.proofs.Results.{then-kept, changed-kept, on-kept, on-kept_both}
 use Rattle.games.specs.declared.Fault.{Fault}
 use Rattle.games.specs.declared.Keyword.{Keyword}
 use Rattle.games.specs.declared.Keyword.TheVariants as keyword
 use Rattle.games.specs.declared.Game.{Game}
 use Rattle.games.specs.declared.Wrong.{Wrong}
-use Rattle.games.specs.Games.{wide, read_to, ◌>>=◌, Put, filled, wholes_put, values_put, whole_of, number_of, ended, lanes_line, with_params, taught, teach_line, names_line, roots_line, Read, read, point_line, with_counter, with_query, keyword_of, said, line_read, next_line, nothing, lines_read, file_read}
+use Rattle.games.specs.Games.{wide, read_to, ◌>>=◌, Put, filled, wholes_put, values_put, whole_of, number_of, ended, lanes_line, changed, with_params, taught, teach_line, names_line, with_roots, roots_line, Read, read, point_line, with_counter, with_query, keyword_of, said, line_read, next_line, nothing, lines_read, file_read}
 
 -- the place up to which it is read, between one that was there and the end of the text
 record At (text : List ℕ) (from : ℕ) (g : Game) : Type 0 where
@@ -25,6 +25,12 @@ module _ (text : List ℕ) (from : ℕ) where
   -- .. where nothing is wrong
   abbrev All : Result Game Wrong → Type 0
   All r = IfOk r (At text from)
+
+  on-at : (r : Result Game Wrong) (f : Game → Result Game Wrong) → All r → ((g : Game) → At text from g → All (f g)) → All (r >>= f)
+  on-at r f a b = then-kept (At text from) (At text from) (λ _. Unit {0}) r f a b
+
+  changed_at : (r : Result Game Wrong) (f : Game → Game) → All r → ((g : Game) → At text from g → At text from (f g)) → All (changed f r)
+  changed_at r f a b = changed-kept (At text from) (At text from) (λ _. Unit {0}) (λ _. Unit {0}) f r a b (λ _ _. tt)
 
   filled_at :
       {A : Type 0} (of : Word → Result A Fault) (g : Game) (left at i : ℕ) (xs : List A) → from ≤ at → at ≤ length text
@@ -64,26 +70,23 @@ module _ (text : List ℕ) (from : ℕ) where
     unfolding teach_line taught with_params
     teach-at =
         let sizes = wholes_put text g 64 67 wholes in
-        then-kept (At text from) (At text from) sizes.game (taught text sizes.list) (wholes-at 64 67) (λ h k.
+        on-at sizes.game (taught text sizes.list) (wholes-at 64 67) (λ h k.
         let threshold = values_put text h 0 1 (of_bits binary32 0 ∷ []) in
         let t = filled_at (number_of text) h 1 h.place 0 (of_bits binary32 0 ∷ []) k.below k.above in
-        then-kept (At text from) (At text from) (threshold.game >>= ended text) _ (then-kept (At text from) (At text from) threshold.game (ended text) t ended_at)
-        (λ _ e. record { below = e.below; above = e.above }))
+        changed_at (threshold.game >>= ended text) _ (on-at threshold.game (ended text) t ended_at) (λ _ e. record { below = e.below; above = e.above }))
 
     names_at : All (names_line text g wholes).game
     unfolding names_line
     names_at =
         let number = wholes_put text g 67 68 wholes in
-        then-kept (At text from) (At text from) (number.game >>= ended text) _ (then-kept (At text from) (At text from) number.game (ended text) (wholes-at 67 68) ended_at)
-        (λ _ e. record { below = e.below; above = e.above })
+        changed_at (number.game >>= ended text) _ (on-at number.game (ended text) (wholes-at 67 68) ended_at) (λ _ e. record { below = e.below; above = e.above })
 
     roots-at : All (roots_line text g wholes).game
     unfolding roots_line
     roots-at =
         let count = words_from 1024 text g.place in
-        let nodes = wholes_put text g 0 count wholes in
         both (λ (q : Put ℕ). All q.game) (leb count 64) _ _
-        (then-kept (At text from) (At text from) nodes.game _ (wholes-at 0 count) (λ _ k. record { below = k.below; above = k.above })) tt
+        (filled_at (λ w. whole_of w.shape w.digits) (with_roots count g) (count - 0) g.place 0 wholes a.below a.above) tt
 
     module _ (values : List Float) where
       point_at : All (point_line text g wholes values).game
@@ -98,7 +101,7 @@ module _ (text : List ℕ) (from : ℕ) where
           let p = filled_at (number_of text) h (wide (first + g.dimension) - first) name.end first values (omega (arith, a.below, k.0, k.1)) k.2 in
           both (λ (s : Read). All s.game) (eqb g.dimension 0) _ _ tt
           (both (λ (s : Read). All s.game) (leb (length wholes) (wide (68 + i))) _ _ tt
-          (then-kept (At text from) (At text from) point.game (ended text) p ended_at))
+          (on-at point.game (ended text) p ended_at))
 
       said_at : (start : ℕ) (k : Option Keyword) → All (said text g start wholes values k).game
       unfolding said
@@ -108,8 +111,8 @@ module _ (text : List ℕ) (from : ℕ) where
       said_at start (Some keyword.Names) = names_at
       said_at start (Some keyword.Roots) = roots-at
       said_at start (Some keyword.Counter) =
-          then-kept (At text from) (At text from) (point_line text g wholes values).game (with_counter g.place) point_at (counter_at g.place)
-      said_at start (Some keyword.Query) = then-kept (At text from) (At text from) (point_line text g wholes values).game _ point_at query_at
+          on-at (point_line text g wholes values).game (with_counter g.place) point_at (counter_at g.place)
+      said_at start (Some keyword.Query) = on-at (point_line text g wholes values).game _ point_at query_at
 
 module _ (text : List ℕ) where
   line_at : (g : Game) (wholes : List ℕ) (values : List Float) → g.place ≤ length text → All text g.place (line_read text g wholes values).game
@@ -138,9 +141,9 @@ module _ (text : List ℕ) where
         either Ended (leb (length text) g.place) (read (Ok g) wholes values) _
         (λ e. leb-true (length text) g.place e)
         (λ e. let inside = leb-false (length text) g.place e in
-        on-kept_ok (At text g.place) Ended t.game _ _ (line_at g wholes values (omega (arith, inside)))
+        on-kept_both (At text g.place) (λ _. Unit {0}) Ended t.game _ _ (line_at g wholes values (omega (arith, inside)))
         (λ r a. let on = next-behind g.place r a in lines_ended most (next_line text r) t.wholes t.values (omega (arith, h, on)))
-        (λ _. tt))
+        (λ _ _. tt))
 
 pub file_ended :
     (text wholes : List ℕ) (values : List Float) → length text ≤ 65535

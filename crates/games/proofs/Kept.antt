@@ -1,6 +1,6 @@
--- What holds of every game that is read: how many lanes, roots, counters and queries there can be, and that their lanes were read. Assumes nothing.
+-- What holds of every game that is read, also up to what is wrong: how many lanes, roots, counters and queries there can be, and that their lanes were read. Assumes nothing.
 use Rattle.std.proofs.Common.{◌≡◌, ℕ, zero, suc, ◌+◌, ◌-◌, ◌*◌, ◌%◌, ◌<◌, ◌≤◌, ◌&&◌, eqb, leb, List, [], ◌∷◌, length, set, Option, Some, None, Ok, Result, sym, refl, ◌∙◌, subst, mod-eq_of_lt, suc-mul, mul-le-mul, zero-mul, add-one, arith, length-set, eqb-true, le-leb, leb-false, leb-true}
-use Rattle.std.specs.Result.{IfOk}
+use Rattle.std.specs.Result.{IfOk, MatchResult}
 use Rattle.std.proofs.lemmas.Result.{IfOk-weaker}
 use lib.Ieee.{Float, binary32, of_bits}
 use borrow.Author.Tests.{eqb-false}
@@ -9,13 +9,13 @@ use Rattle.cases.specs.Text.{area_of}
 use Rattle.lines.proofs.Choice.{either, both}
 use Rattle.lines.specs.declared.Word.{Word}
 use Rattle.lines.specs.Words.{word_at, words_from, spelt}
-use Rattle.games.proofs.Results.{then-kept, on-kept, on-kept_ok, IfOk-both}
+use Rattle.games.proofs.Results.{then-kept, changed-kept, on-kept, on-kept_both, kept-with}
 use Rattle.games.specs.declared.Fault.{Fault}
 use Rattle.games.specs.declared.Keyword.{Keyword}
 use Rattle.games.specs.declared.Keyword.TheVariants as keyword
 use Rattle.games.specs.declared.Game.{Game}
 use Rattle.games.specs.declared.Wrong.{Wrong}
-use Rattle.games.specs.Games.{wide, read_to, ◌>>=◌, Put, filled, wholes_put, values_put, whole_of, number_of, ended, lanes_line, with_params, taught, teach_line, names_line, roots_line, Read, read, point_line, with_counter, with_query, keyword_of, said, line_read, next_line, nothing, lines_read, file_read}
+use Rattle.games.specs.Games.{wide, read_to, ◌>>=◌, Put, filled, wholes_put, values_put, whole_of, number_of, ended, lanes_line, changed, with_params, taught, teach_line, names_line, with_roots, roots_line, Read, read, point_line, with_counter, with_query, keyword_of, said, line_read, next_line, nothing, lines_read, file_read}
 
 -- the lanes, the counters, the queries and the roots
 abbrev Counts : Type 0
@@ -33,17 +33,25 @@ pub record Within (room long : ℕ) (c : Counts) : Type 0 where
   pub places : c.1 + c.2 ≤ room - 68
   pub points : (c.1 + c.2) * c.0 ≤ long
 
+-- What holds of the game that is read, and of that where something is wrong
+abbrev Falls : (P R : Counts → Type 0) → Result Game Wrong → Type 0
+Falls P R r = MatchResult r (λ g. P (counts g)) (λ w. R (counts w.game))
+
+-- .. the same of both
+abbrev Whole : (Counts → Type 0) → Result Game Wrong → Type 0
+Whole P r = Falls P P r
+
 module _ {A : Type 0} (of : Word → Result A Fault) (text : List ℕ) (g : Game) where
   filled-kept :
       (P : Counts → Type 0) → P (counts g) → (long left at i : ℕ) (xs : List A) → length xs ≡ long
-      → IfOk (filled of text g left at i xs).game (λ h. P (counts h)) × (length (filled of text g left at i xs).list ≡ long)
+      → Whole P (filled of text g left at i xs).game × (length (filled of text g left at i xs).list ≡ long)
   unfolding filled
   filled-kept P p long zero at i xs l = (p, l)
   filled-kept P p long (suc left) at i xs l =
       let w = word_at text at in
-      let Stays : Put A → Type 0 = λ q. IfOk q.game (λ h. P (counts h)) × (length q.list ≡ long) in
-      both Stays (leb (length xs) i) _ _ (tt, l)
-      (on-kept Stays (of w) _ _ (λ x. filled-kept P p long left w.end (suc i) (set xs i x) (length-set xs i x ∙ l)) (λ _. (tt, l)))
+      let Stays : Put A → Type 0 = λ q. Whole P q.game × (length q.list ≡ long) in
+      both Stays (leb (length xs) i) _ _ (p, l)
+      (on-kept Stays (of w) _ _ (λ x. filled-kept P p long left w.end (suc i) (set xs i x) (length-set xs i x ∙ l)) (λ _. (p, l)))
 
   -- All places that are filled are there.
   room_step :
@@ -65,27 +73,40 @@ module _ {A : Type 0} (of : Word → Result A Fault) (text : List ℕ) (g : Game
       (λ here x. IfOk-weaker (filled of text g (suc left) w.end (suc i) (set xs i x)).game _ _
       (λ _ h. omega (arith, h, length-set xs i x)) (filled-room left w.end (suc i) (set xs i x)))
 
-ended-kept : (text : List ℕ) (P : Game → Type 0) (g : Game) → P g → IfOk (ended text g) P
+ended-kept : (text : List ℕ) (P R : Counts → Type 0) (g : Game) → P (counts g) → R (counts g) → Falls P R (ended text g)
 unfolding ended
-ended-kept text P g p =
+ended-kept text P R g p q =
     let w = word_at text g.place in
-    both (λ (r : Result Game Wrong). IfOk r P) (eqb w.start w.end) _ _ p tt
+    both (Falls P R) (eqb w.start w.end) _ _ p q
 
 module _ (room long : ℕ) (small : room ≤ 65604) (text : List ℕ) where
   abbrev Bounded : Game → Type 0
   Bounded g = Within room long (counts g)
 
+  abbrev Inside : Result Game Wrong → Type 0
+  Inside r = Whole (Within room long) r
+
   abbrev Fine : Put ℕ → Type 0
-  Fine q = IfOk q.game Bounded × (length q.list ≡ room)
+  Fine q = Inside q.game × (length q.list ≡ room)
 
   abbrev Good : Read → Type 0
-  Good s = IfOk s.game Bounded × (length s.wholes ≡ room) × (length s.values ≡ long)
+  Good s = Inside s.game × (length s.wholes ≡ room) × (length s.values ≡ long)
 
-  lanes-kept : (g : Game) → Bounded g → IfOk (lanes_line text g) Bounded
+  -- on with a game that is within
+  on-inside : (r : Result Game Wrong) (f : Game → Result Game Wrong) → Inside r → ((g : Game) → Bounded g → Inside (f g)) → Inside (r >>= f)
+  on-inside r f p q = then-kept Bounded Bounded (λ w. Bounded w.game) r f p q
+
+  changed_inside : (r : Result Game Wrong) (f : Game → Game) → Inside r → ((g : Game) → Bounded g → Bounded (f g)) → Inside (changed f r)
+  changed_inside r f p q = changed-kept Bounded Bounded (λ w. Bounded w.game) (λ w. Bounded w.game) f r p q (λ w. q w.game)
+
+  ended_inside : (g : Game) → Bounded g → Inside (ended text g)
+  ended_inside g b = ended-kept text (Within room long) (Within room long) g b b
+
+  lanes-kept : (g : Game) → Bounded g → Inside (lanes_line text g)
   unfolding lanes_line
   lanes-kept g b =
       let count = words_from 1024 text g.place in
-      either (λ (r : Result Game Wrong). IfOk r Bounded) (eqb g.dimension 0 && (leb 1 count && leb count 16)) _ _
+      either Inside (eqb g.dimension 0 && (leb 1 count && leb count 16)) _ _
       (λ t.
       let u = tests.both (eqb g.dimension 0) (leb 1 count && leb count 16) t in
       let none : g.n + g.asked ≡ 0 = b.named (eqb-true g.dimension 0 u.0) in
@@ -96,7 +117,7 @@ module _ (room long : ℕ) (small : room ≤ 65604) (text : List ℕ) where
         places = b.places;
         points = rw (none, zero-mul count) (omega arith);
       })
-      (λ _. tt)
+      (λ _. b)
 
   module _ (g : Game) (wholes : List ℕ) (b : Bounded g) (l : length wholes ≡ room) where
     wholes-kept : (first end : ℕ) → Fine (wholes_put text g first end wholes)
@@ -107,10 +128,10 @@ module _ (room long : ℕ) (small : room ≤ 65604) (text : List ℕ) where
     teach-kept =
         let sizes = wholes_put text g 64 67 wholes in
         let kept = wholes-kept 64 67 in (
-          then-kept Bounded Bounded sizes.game (taught text sizes.list) kept.0 (λ a p.
+          on-inside sizes.game (taught text sizes.list) kept.0 (λ a p.
               let threshold = values_put text a 0 1 (of_bits binary32 0 ∷ []) in
               let t = filled-kept (number_of text) text a (Within room long) p 1 1 a.place 0 (of_bits binary32 0 ∷ []) refl in
-              then-kept Bounded Bounded (threshold.game >>= ended text) _ (then-kept Bounded Bounded threshold.game (ended text) t.0 (ended-kept text Bounded)) (λ _ q. q)),
+              changed_inside (threshold.game >>= ended text) _ (on-inside threshold.game (ended text) t.0 ended_inside) (λ _ q. q)),
           kept.1,
         )
 
@@ -119,21 +140,17 @@ module _ (room long : ℕ) (small : room ≤ 65604) (text : List ℕ) where
     names-kept =
         let number = wholes_put text g 67 68 wholes in
         let kept = wholes-kept 67 68 in
-        (then-kept Bounded Bounded (number.game >>= ended text) _ (then-kept Bounded Bounded number.game (ended text) kept.0 (ended-kept text Bounded)) (λ _ q. q), kept.1)
+        (changed_inside (number.game >>= ended text) _ (on-inside number.game (ended text) kept.0 ended_inside) (λ _ q. q), kept.1)
 
     roots_kept : Fine (roots_line text g wholes)
     unfolding roots_line
     roots_kept =
         let count = words_from 1024 text g.place in
-        let nodes = wholes_put text g 0 count wholes in
-        let kept = wholes-kept 0 count in
         either Fine (leb count 64) _ _
-        (λ t. (
-          then-kept Bounded Bounded nodes.game _ kept.0
-              (λ _ p. record { lanes = p.lanes; named = p.named; roots = leb-true count 64 t; places = p.places; points = p.points }),
-          kept.1,
-        ))
-        (λ _. (tt, l))
+        (λ t.
+        let c : Bounded (with_roots count g) = record { lanes = b.lanes; named = b.named; roots = leb-true count 64 t; places = b.places; points = b.points } in
+        filled-kept (λ w. whole_of w.shape w.digits) text (with_roots count g) (Within room long) c room (count - 0) g.place 0 wholes l)
+        (λ _. (b, l))
 
   -- a game with room for one counter or query more, whose lanes are read
   record Open (c : Counts) : Type 0 where
@@ -145,14 +162,18 @@ module _ (room long : ℕ) (small : room ≤ 65604) (text : List ℕ) where
   abbrev Ready : Game → Type 0
   Ready g = Open (counts g)
 
-  counter_added : (place : ℕ) (g : Game) → Ready g → IfOk (with_counter place g) Bounded
+  -- the same, or a game within where something is wrong
+  abbrev Opened : Result Game Wrong → Type 0
+  Opened r = Falls Open (Within room long) r
+
+  counter_added : (place : ℕ) (g : Game) → Ready g → Inside (with_counter place g)
   unfolding with_counter
   counter_added place g o =
       let b = o.within in
       let n : wide (g.n + 1) ≡ g.n + 1 = mod-eq_of_lt (omega (arith, small, o.more)) in
       let n' : wide (g.n + 1) + g.asked ≡ g.n + g.asked + 1 = omega (arith, n) in
-      both (λ (r : Result Game Wrong). IfOk r Bounded) (eqb g.asked 0) _ _
-      (record { lanes = b.lanes; named = λ z. absurd (o.some z); roots = b.roots; places = rw n' (omega (arith, o.more)); points = rw n' o.fits }) tt
+      both Inside (eqb g.asked 0) _ _
+      (record { lanes = b.lanes; named = λ z. absurd (o.some z); roots = b.roots; places = rw n' (omega (arith, o.more)); points = rw n' o.fits }) b
 
   query_added : (g : Game) → Ready g → Bounded (with_query g)
   query_added g o =
@@ -176,7 +197,7 @@ module _ (room long : ℕ) (small : room ≤ 65604) (text : List ℕ) where
 
   module _ (g : Game) (wholes : List ℕ) (values : List Float) (b : Bounded g) (l : length wholes ≡ room) (v : length values ≡ long) where
     point_kept :
-        IfOk (point_line text g wholes values).game Ready × (length (point_line text g wholes values).wholes ≡ room)
+        Opened (point_line text g wholes values).game × (length (point_line text g wholes values).wholes ≡ room)
         × (length (point_line text g wholes values).values ≡ long)
     unfolding point_line
     point_kept =
@@ -185,9 +206,9 @@ module _ (room long : ℕ) (small : room ≤ 65604) (text : List ℕ) where
         let few : m ≤ 65536 = omega (arith, small, b.places) in
         let i : wide m ≡ m = mod-eq_of_lt (omega (arith, few)) in
         let slot : wide (68 + wide m) ≡ 68 + m = rw i (mod-eq_of_lt (omega (arith, few))) in
-        let Left : Read → Type 0 = λ s. IfOk s.game Ready × (length s.wholes ≡ room) × (length s.values ≡ long) in
-        either Left (eqb d 0) _ _ (λ _. (tt, l, v))
-        (λ z. either Left (leb (length wholes) (wide (68 + wide m))) _ _ (λ _. (tt, l, v))
+        let Left : Read → Type 0 = λ s. Opened s.game × (length s.wholes ≡ room) × (length s.values ≡ long) in
+        either Left (eqb d 0) _ _ (λ _. (b, l, v))
+        (λ z. either Left (leb (length wholes) (wide (68 + wide m))) _ _ (λ _. (b, l, v))
         (λ f.
         let inside : wide (68 + wide m) < length wholes = leb-false (length wholes) (wide (68 + wide m)) f in
         let some = eqb-false d 0 z in
@@ -209,25 +230,26 @@ module _ (room long : ℕ) (small : room ≤ 65604) (text : List ℕ) where
           some = some;
           fits = rw (add-one m, suc-mul m d) (omega (arith, fits, first_is, v, some));
         } in
-        let opened = IfOk-weaker point.game _ Ready (λ r both. subst Open (sym both.0) (made both.1)) (IfOk-both (λ r. counts r ≡ counts g) _ point.game kept.0 full) in (
-          then-kept Ready Ready point.game (ended text) opened (ended-kept text Ready),
+        let opened = kept-with (λ r. counts r ≡ counts g) _ Ready (λ w. counts w.game ≡ counts g) (λ w. Bounded w.game) point.game kept.0 full
+        (λ _ same fits. subst Open (sym same) (made fits)) (λ _ same. subst (Within room long) (sym same) b) in (
+          then-kept Ready Ready (λ w. Bounded w.game) point.game (ended text) opened (λ a o. ended-kept text Open (Within room long) a o o.within),
           length-set wholes (wide (68 + wide m)) ((word_at text g.place).start % 65536) ∙ l,
           kept.1,
         )))
 
     said_kept : (start : ℕ) (k : Option Keyword) → Good (said text g start wholes values k)
     unfolding said
-    said_kept start None = (tt, l, v)
+    said_kept start None = (b, l, v)
     said_kept start (Some keyword.Lanes) = (lanes-kept g b, l, v)
     said_kept start (Some keyword.Teach) = let k = teach-kept g wholes b l in (k.0, k.1, v)
     said_kept start (Some keyword.Names) = let k = names-kept g wholes b l in (k.0, k.1, v)
     said_kept start (Some keyword.Roots) = let k = roots_kept g wholes b l in (k.0, k.1, v)
     said_kept start (Some keyword.Counter) =
         let k = point_kept in
-        (then-kept Ready Bounded (point_line text g wholes values).game (with_counter g.place) k.0 (counter_added g.place), k.1, k.2)
+        (then-kept Ready Bounded (λ w. Bounded w.game) (point_line text g wholes values).game (with_counter g.place) k.0 (counter_added g.place), k.1, k.2)
     said_kept start (Some keyword.Query) =
         let k = point_kept in
-        (then-kept Ready Bounded (point_line text g wholes values).game _ k.0 query_added, k.1, k.2)
+        (then-kept Ready Bounded (λ w. Bounded w.game) (point_line text g wholes values).game _ k.0 query_added, k.1, k.2)
 
   line_kept :
       (g : Game) (wholes : List ℕ) (values : List Float) → Bounded g → length wholes ≡ room → length values ≡ long
@@ -247,12 +269,13 @@ module _ (room long : ℕ) (small : room ≤ 65604) (text : List ℕ) where
       let t = line_read text g wholes values in
       let kept = line_kept g wholes values b l v in
       both Good (leb (length text) g.place) (read (Ok g) wholes values) _ (b, l, v)
-      (on-kept_ok Bounded Good t.game _ _ kept.0 (λ h p. lines_kept most (next_line text h) t.wholes t.values p kept.1 kept.2)
-      (λ _. (tt, kept.1, kept.2)))
+      (on-kept_both Bounded (λ w. Bounded w.game) Good t.game _ _ kept.0 (λ h p. lines_kept most (next_line text h) t.wholes t.values p kept.1 kept.2)
+      (λ _ p. (p, kept.1, kept.2)))
 
 pub file_kept :
     (text wholes : List ℕ) (values : List Float) → length wholes ≤ 65604
-    → IfOk (file_read text wholes values).game (λ g. Within (length wholes) (length values) (counts g))
+    → let kept = Within (length wholes) (length values) in
+    MatchResult (file_read text wholes values).game (λ g. kept (counts g)) (λ w. kept (counts w.game))
 file_kept text wholes values small =
     (lines_kept (length wholes) (length values) small text 65536 nothing wholes values
     (record { lanes = omega arith; named = λ _. refl; roots = omega arith; places = omega arith; points = omega arith }) refl refl).0

@@ -4,8 +4,8 @@ use lib.Ieee.{binary32, of_bits, nan, div, of_int}
 use Rattle.cases.specs.Text.{area_of}
 use Rattle.params.specs.Params.{defaults}
 use Rattle.lines.specs.Words.{is_blank, stops, end_of, digits_with, shape_with_digit, shape_with_minus, shape_with_point, shape_with, word_of, word_at, words_from, spelt, is_decimal, is_number, scale_of, value_of}
-use Rattle.games.specs.declared.Fault.TheVariants.{Lanes}
-use Rattle.games.specs.Games.{nothing, game, wrong, filled, whole_of, number_of, ended, lanes_line, roots_line, keyword_of, said, with_counter, read, point_line, line_read, lines_read, file_read}
+use Rattle.games.specs.declared.Fault.TheVariants.{More, Lanes}
+use Rattle.games.specs.Games.{nothing, game, wrong, filled, whole_of, number_of, ended, lanes_line, names_line, roots_line, keyword_of, said, with_counter, read, point_line, line_read, lines_read, file_read}
 
 -- The names stand at 24 and 36, the lane's at 6.
 small :
@@ -18,3 +18,10 @@ small = refl
 early : file_read (codes "counter x 1") [] [] ≡ read (Err (wrong nothing 7 Lanes)) [] []
 unfolding is_blank stops end_of digits_with shape_with_digit shape_with_minus shape_with_point shape_with word_of word_at spelt keyword_of said point_line line_read lines_read
 early = refl
+
+-- A word is left over: the number in front of it is said.
+more :
+    file_read (codes "names 3 4") (replicate 68 0) []
+    ≡ read (Err (wrong (game 0 0 0 0 3 defaults 0 1 0) 8 More)) (replicate 67 0 ++ 3 ∷ []) []
+unfolding is_blank stops end_of digits_with shape_with_digit shape_with_minus shape_with_point shape_with word_of word_at spelt filled whole_of ended names_line keyword_of said line_read lines_read
+more = refl

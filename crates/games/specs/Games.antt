@@ -35,7 +35,12 @@ read_to g place = game g.dimension g.n g.asked g.roots g.k g.params g.title g.li
 
 -- What is wrong at a place of the line that is read
 abbrev pub wrong : Game → ℕ → Fault → Wrong
-wrong g place f = record { line = g.line; place = place; fault = f }
+wrong g place f = record { game = read_to g place; fault = f }
+
+-- A change of the game that is read, also where something is wrong
+abbrev pub changed : (Game → Game) → Result Game Wrong → Result Game Wrong
+changed change (Ok g) = Ok (change g)
+changed change (Err w) = Err (record { game = change w.game; fault = w.fault })
 
 -- "What should stand there", for each thing that can be wrong
 unfoldable pub message : Fault → List ℕ
@@ -121,7 +126,7 @@ with_params g wholes threshold =
 unfoldable pub taught : List ℕ → List ℕ → Game → Result Game Wrong
 taught text wholes g =
     let threshold = values_put text g 0 1 (from_bits binary32 0 ∷ []) in
-    threshold.game >>= ended text >>= (λ h. Ok (with_params h wholes (slice_index_or threshold.list 0 nan)))
+    changed (λ h. with_params h wholes (slice_index_or threshold.list 0 nan)) (threshold.game >>= ended text)
 
 unfoldable pub teach_line : List ℕ → Game → List ℕ → Put ℕ
 teach_line text g wholes =
@@ -135,7 +140,7 @@ with_k wholes g = game g.dimension g.n g.asked g.roots (slice_index wholes 67) g
 unfoldable pub names_line : List ℕ → Game → List ℕ → Put ℕ
 names_line text g wholes =
     let number = wholes_put text g 67 68 wholes in
-    put (number.game >>= ended text >>= (λ h. Ok (with_k number.list h))) number.list
+    put (changed (with_k number.list) (number.game >>= ended text)) number.list
 
 -- "where every search starts, at most 64"
 abbrev pub with_roots : ℕ → Game → Game
@@ -144,9 +149,8 @@ with_roots count g = game g.dimension g.n g.asked count g.k g.params g.title g.l
 unfoldable pub roots_line : List ℕ → Game → List ℕ → Put ℕ
 roots_line text g wholes =
     let count = words_from 1024 text g.place in
-    let nodes = wholes_put text g 0 count wholes in
-    cond (nat_le count 64) (put (nodes.game >>= (λ h. Ok (with_roots count h))) nodes.list)
-    (put (Err (wrong g g.place fault.Room)) wholes)
+    let nodes = wholes_put text (with_roots count g) 0 count wholes in
+    cond (nat_le count 64) nodes (put (Err (wrong g g.place fault.Room)) wholes)
 
 -- A game as far as it is read or what is wrong, its whole numbers, and the lanes of its counters and queries
 pub record Read : Type 0 where

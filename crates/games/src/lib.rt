@@ -48,11 +48,10 @@ impl fmt::Display for Fault {
     }
 }
 
-/// What is wrong with a file, and the line and the place where it says so.
-#[derive(Clone, Copy, Debug, PartialEq, Eq)]
+/// What is wrong with a file, and the game as far as it is read: its line and place are those of what is wrong.
+#[derive(Clone, Copy, Debug, PartialEq)]
 pub struct Wrong {
-    pub line: usize,
-    pub place: usize,
+    pub game: Game,
     pub fault: Fault,
 }
 
@@ -75,7 +74,7 @@ const K: usize = 67;
 const PLACES: usize = 68;
 
 /// A game as its file says: how much of all there is, the parameters, the place of the lanes' names; the line and the place up to which it is read.
-#[derive(Clone, Copy)]
+#[derive(Clone, Copy, Debug, PartialEq)]
 pub struct Game {
     pub dimension: usize,
     pub n: usize,
@@ -116,8 +115,7 @@ fn wrong_at(g: Game, place: usize, fault: Fault) -> Wrong
     ensures { result ≡ wrong g place fault }
 {
     Wrong {
-        line: g.line,
-        place,
+        game: read_to(g, place),
         fault,
     }
 }
@@ -237,29 +235,37 @@ fn with_params(g: Game, wholes: &[u32], threshold: f32) -> Game
     Game { params, ..g }
 }
 
-// `teach INIT_K INDEX_SIZE NEIGHBOR_NEIGHBOR_SIZE THRESHOLD`
+// `teach INIT_K INDEX_SIZE NEIGHBOR_NEIGHBOR_SIZE THRESHOLD`: behind the sizes, what is read stands in the game also where the rest of the line is wrong.
 #[tactic(auto, unfolding(crate::specs::Games::taught, crate::specs::Games::teach_line))]
 fn teach_line(text: &[u8], g: Game, wholes: &mut [u32]) -> Result<Game, Wrong>
     ensures { put result wholes.new ≡ teach_line text.now g wholes.old }
 {
     let sizes = read_numbers(text, g, SIZES, K, wholes)?;
     let mut threshold = [0.0f32; 1];
-    let all = read_numbers(text, sizes, 0, 1, &mut threshold)?;
-    let r = ended(text, all)?;
-    Ok(with_params(r, wholes, threshold[0]))
+    let r = read_numbers(text, sizes, 0, 1, &mut threshold).and_then(|all| ended(text, all));
+    match r {
+        Ok(h) => Ok(with_params(h, wholes, threshold[0])),
+        Err(w) => Err(Wrong {
+            game: with_params(w.game, wholes, threshold[0]),
+            ..w
+        }),
+    }
 }
 
-// `names K`
+// `names K`: the number stands in the game also where the line is wrong.
 #[tactic(auto, unfolding(crate::specs::Games::names_line))]
 fn names_line(text: &[u8], g: Game, wholes: &mut [u32]) -> Result<Game, Wrong>
     ensures { put result wholes.new ≡ names_line text.now g wholes.old }
 {
-    let number = read_numbers(text, g, K, PLACES, wholes)?;
-    let r = ended(text, number)?;
-    Ok(Game {
-        k: whole(wholes, K),
-        ..r
-    })
+    let r = read_numbers(text, g, K, PLACES, wholes).and_then(|number| ended(text, number));
+    let k = whole(wholes, K);
+    match r {
+        Ok(h) => Ok(Game { k, ..h }),
+        Err(w) => Err(Wrong {
+            game: Game { k, ..w.game },
+            ..w
+        }),
+    }
 }
 
 // `roots NODE..`
@@ -271,8 +277,7 @@ fn roots_line(text: &[u8], g: Game, wholes: &mut [u32]) -> Result<Game, Wrong>
     if roots > SIZES {
         return Err(wrong_at(g, g.place, Fault::Room));
     }
-    let r = read_numbers(text, g, 0, roots, wholes)?;
-    Ok(Game { roots, ..r })
+    read_numbers(text, Game { roots, ..g }, 0, roots, wholes)
 }
 
 // `counter NAME LANE..` and `query NAME LANE..`: the name's place and the lanes, behind all that are there.

@@ -57,12 +57,12 @@ fn play(
 
 // What is wrong with a file, and where.
 fn put_wrong(rt: &impl Print, text: &[u8], w: Wrong) -> io::Result<()> {
-    print!(rt; "line {}: {}, where it says: ", w.line, w.fault)?;
-    rt.write_all(tables::words(text, w.place))
+    print!(rt; "line {}: {}, where it says: ", w.game.line, w.fault)?;
+    rt.write_all(tables::words(text, w.game.place))
 }
 
 fn name_counters(rt: &impl Print, text: &[u8]) -> io::Result<()> {
-    let mut wholes = [0; 388];
+    let mut wholes: [u32; 388] = [0; 388];
     let mut values = rooms::values_room();
     match games::read(text, &mut wholes, &mut values) {
         Ok(game) => play(rt, text, game, &wholes, &values),
@@ -83,7 +83,7 @@ fn name_file(rt: &(impl Env + Files + Input + Print), file: Option<usize>) -> io
 
 // The argument that names a file: none where it is `-` or the program's own name. One that is longer than its room has length 0 there, and so is no `-`.
 fn source(env: &impl Env, i: usize) -> Option<usize> {
-    let mut name = [0; 1];
+    let mut name: [u8; 1] = [0; 1];
     let n = inputs::arg(env, i, &mut name);
     (i != 0 && !files::is_dash(&name[..n])).then_some(i)
 }

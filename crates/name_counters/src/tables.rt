@@ -1,4 +1,7 @@
 // The tables that are printed of a game that is taught: counters by name for a person; ranks, nodes and bits, refusals and the graph for a program.
+ghost use Rattle.std.specs.Prelude.{◌≡◌, slice_range};
+ghost use Rattle.lines.specs.Words.{end_from};
+
 use answers::Said;
 use games::Game;
 use lines::Part;
@@ -25,15 +28,18 @@ enum Table {
 }
 
 /// The words of a line from a place on.
-pub(crate) fn words(text: &[u8], from: usize) -> &[u8] {
+pub(crate) fn words(text: &[u8], from: usize) -> &[u8]
+    ensures { result.now ≡ slice_range text.now from (end_from Part.Words text.now from) }
+{
     let end = lines::find(text, from, Part::Words);
     text.get(from..end).unwrap_or(&[])
 }
 
 /// Prints a refusal by its number and places.
 pub(crate) fn put_refusal(rt: &impl Print, r: Refusal) -> io::Result<()> {
-    let said = Said::from(r);
-    print!(rt; ": {},{},{}", said.refusal, said.first, said.second)
+    let mut page: [u8; 64] = [0; 64];
+    let end = refusals::put_refusal(&mut page, 0, r);
+    rt.write_all(pages::text(&page, end))
 }
 
 impl Taught<'_> {
@@ -75,11 +81,11 @@ impl Taught<'_> {
 
     // Looks a query up and prints its answer, in one of the tables.
     fn ask(&self, rt: &impl Print, table: Table, asked: usize, query: &[f32]) -> io::Result<()> {
-        let mut nodes = [0; 64];
-        let mut bits = [0; 64];
+        let mut nodes: [u32; 64] = [0; 64];
+        let mut bits: [u32; 64] = [0; 64];
         match self.look(query, &mut nodes, &mut bits) {
             Ok(SearchCounts { m, takings: _ }) => {
-                let m = m.min(64);
+                let m = m.min(nodes.len());
                 self.put_found(rt, table, asked, &nodes[..m], &bits[..m])
             }
             Err(r) => put_refused(rt, table, asked, r),

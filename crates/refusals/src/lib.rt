@@ -274,7 +274,7 @@ pub fn put_end(page: &mut [u8], at: usize, passed: u32, c: Cursor) -> usize
 
 // The last line: how many cases there were, and the reader's fault.
 fn say_end(rt: &impl Print, passed: u32, c: Cursor) -> io::Result<()> {
-    let mut page = [0; 64];
+    let mut page: [u8; 64] = [0; 64];
     let end = put_end(&mut page, 0, passed, c);
     rt.write_all(pages::text(&page, end))
 }

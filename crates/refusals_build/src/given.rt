@@ -49,7 +49,7 @@ fn call_of(xs: [u32; 10]) -> Call
 pub fn read_case(text: &[u8], c: Cursor) -> Read<Call>
     ensures { result ≡ case_at text.now c }
 {
-    let mut xs = [0; 10];
+    let mut xs: [u32; 10] = [0; 10];
     let cursor = cases::read_words(text, c, &mut xs);
     Read {
         value: call_of(xs),

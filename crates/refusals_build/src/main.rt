@@ -91,7 +91,7 @@ fn told(
     words: &[u32],
     floats: &[f32],
 ) -> io::Result<()> {
-    let mut page = [0; 4096];
+    let mut page: [u8; 4096] = [0; 4096];
     let case = pages::put_word(&mut page, 0, b"case ", number);
     let end = put_rest(&mut page, case, answer, index_size, graph, words, floats);
     rt.write_all(pages::text(&page, end))
@@ -99,13 +99,16 @@ fn told(
 
 // A call on the first of given lanes and on junk in places of our own, as many as it says, and its line.
 fn called(rt: &impl Print, number: u32, c: Call, lanes: &[f32]) -> io::Result<()> {
-    let mut graph = [0; 4096];
-    let mut words = [0; 36864];
-    let mut floats = [0.0; 36864];
+    let mut graph: [u32; 4096] = [0; 4096];
+    let mut words: [u32; 36864] = [0; 36864];
+    let mut floats: [f32; 36864] = [0.0; 36864];
     let lanes = &lanes[..c.lanes.min(lanes.len())];
-    let graph = &mut graph[..c.graph.min(4096)];
-    let words = &mut words[..c.words.min(36864)];
-    let floats = &mut floats[..c.floats.min(36864)];
+    let graph_long = c.graph.min(graph.len());
+    let words_long = c.words.min(words.len());
+    let floats_long = c.floats.min(floats.len());
+    let graph = &mut graph[..graph_long];
+    let words = &mut words[..words_long];
+    let floats = &mut floats[..floats_long];
     refusals::fill(graph, GRAPH);
     refusals::fill_scratch(words, floats);
     let answer = build::build(c.params, c.dimension, c.n, lanes, graph, words, floats);
@@ -126,7 +129,7 @@ fn one_case(rt: &impl Print, text: &[u8], c: Cursor, number: u32) -> io::Result<
     ensures { IfOk result (λ behind. behind ≡ behind_case text.now c) }
 {
     let case = given::read_case(text, c);
-    let mut lanes = [0.0; 4096];
+    let mut lanes: [f32; 4096] = [0.0; 4096];
     refusals::fill(&mut lanes, 0.0);
     let first = refusals::read_lanes(text, case.cursor, &mut lanes);
     called(rt, number, case.value, &lanes)?;

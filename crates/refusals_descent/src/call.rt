@@ -191,7 +191,7 @@ fn say(
     state_u: &[u32],
     left: Left,
 ) -> io::Result<()> {
-    let mut page = [0; 4096];
+    let mut page: [u8; 4096] = [0; 4096];
     let call = put_number(&mut page, c, number);
     let behind = put_answer(&mut page, call, c, answer, state_u);
     let end = refusals::put_left(&mut page, behind, left);

@@ -31,7 +31,7 @@ fn call_of(xs: [u32; 12]) -> Call
 pub fn read_call(text: &[u8], c: Cursor) -> Read<Call>
     ensures { result ≡ call_at text.now c }
 {
-    let mut xs = [0; 12];
+    let mut xs: [u32; 12] = [0; 12];
     let cursor = cases::read_words(text, c, &mut xs);
     Read {
         value: call_of(xs),

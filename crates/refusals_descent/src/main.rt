@@ -19,30 +19,34 @@ fn lend(
 ) -> io::Result<()> {
     let mut state_u = *given_u;
     let mut state_f = *given_f;
-    let mut draws = [0; 513];
-    let mut words = [0; 8192];
-    let mut floats = [0.0; 8192];
+    let mut draws: [u32; 513] = [0; 513];
+    let mut words: [u32; 8192] = [0; 8192];
+    let mut floats: [f32; 8192] = [0.0; 8192];
     refusals::fill(&mut draws, 6);
+    let state_u_long = c.state_u.min(state_u.len());
+    let state_f_long = c.state_f.min(state_f.len());
+    let words_long = c.words.min(words.len());
+    let floats_long = c.floats.min(floats.len());
     call::called(
         rt,
         number,
         c,
-        &lanes[..c.lanes.min(256)],
-        &draws[..c.draws.min(513)],
-        &given_u[..c.state_u.min(2098)],
-        &given_f[..c.state_f.min(256)],
-        &mut state_u[..c.state_u.min(2098)],
-        &mut state_f[..c.state_f.min(256)],
-        &mut words[..c.words.min(8192)],
-        &mut floats[..c.floats.min(8192)],
+        &lanes[..c.lanes.min(lanes.len())],
+        &draws[..c.draws.min(draws.len())],
+        &given_u[..c.state_u.min(given_u.len())],
+        &given_f[..c.state_f.min(given_f.len())],
+        &mut state_u[..state_u_long],
+        &mut state_f[..state_f_long],
+        &mut words[..words_long],
+        &mut floats[..floats_long],
     )
 }
 
 fn one_call(rt: &impl Print, text: &[u8], c: Cursor, number: u32) -> io::Result<Cursor> {
     let call = given::read_call(text, c);
-    let mut lanes = [0.0; 256];
-    let mut words = [0; 2098];
-    let mut floats = [0.0; 256];
+    let mut lanes: [f32; 256] = [0.0; 256];
+    let mut words: [u32; 2098] = [0; 2098];
+    let mut floats: [f32; 256] = [0.0; 256];
     let a = refusals::read_lanes(text, call.cursor, &mut lanes);
     call::write_state(call.value, &mut words, &mut floats);
     let b = given::harm_words(text, a.cursor, &mut words);
@@ -73,12 +77,12 @@ fn say_end(rt: &impl Print, c: Cursor) -> io::Result<()> {
 
 // Nodes in a line. Draw j is j, so nodes 2i and 2i + 1 meet twice each, and end in each other's list. The state before is not kept: no row holds.
 fn most_nodes(rt: &impl Print) -> io::Result<()> {
-    let mut lanes = [0.0; 1024];
-    let mut draws = [0; 2048];
-    let mut state_u = [0; 300032];
-    let mut state_f = [0.0; 1024];
-    let mut words = [0; 528384];
-    let mut floats = [0.0; 528384];
+    let mut lanes: [f32; 1024] = [0.0; 1024];
+    let mut draws: [u32; 2048] = [0; 2048];
+    let mut state_u: [u32; 300032] = [0; 300032];
+    let mut state_f: [f32; 1024] = [0.0; 1024];
+    let mut words: [u32; 528384] = [0; 528384];
+    let mut floats: [f32; 528384] = [0.0; 528384];
     refusals::fill(&mut lanes, 0.0);
     refusals::fill(&mut draws, 0);
     for begins in [true, false] {

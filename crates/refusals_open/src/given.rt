@@ -68,7 +68,7 @@ fn entry_of(at: u32, node: u32, bits: u32) -> Entry
 pub fn read_case(text: &[u8], c: Cursor) -> Read<Case>
     ensures { result ≡ case_at text.now c }
 {
-    let mut xs = [0; 15];
+    let mut xs: [u32; 15] = [0; 15];
     let cursor = cases::read_words(text, c, &mut xs);
     let value = Case {
         call: call_of(xs),

@@ -60,7 +60,7 @@ fn told(
     scratch_u: &[u32],
     scratch_f: &[f32],
 ) -> io::Result<()> {
-    let mut page = [0; 128];
+    let mut page: [u8; 128] = [0; 128];
     let case = pages::put_word(&mut page, 0, b"case ", number);
     let end = put_rest(&mut page, case, answer, words, floats, scratch_u, scratch_f);
     rt.write_all(pages::text(&page, end))
@@ -77,14 +77,18 @@ fn called(
     jobs: &[u32],
 ) -> io::Result<()> {
     let c = case.call;
-    let mut words = [0; 1540];
-    let mut floats = [0.0; 576];
-    let mut scratch_u = [0; 6145];
-    let mut scratch_f = [0.0; 6145];
-    let words = &mut words[..c.words.min(1540)];
-    let floats = &mut floats[..c.floats.min(576)];
-    let scratch_u = &mut scratch_u[..c.scratch_u.min(6145)];
-    let scratch_f = &mut scratch_f[..c.scratch_f.min(6145)];
+    let mut words: [u32; 1540] = [0; 1540];
+    let mut floats: [f32; 576] = [0.0; 576];
+    let mut scratch_u: [u32; 6145] = [0; 6145];
+    let mut scratch_f: [f32; 6145] = [0.0; 6145];
+    let words_long = c.words.min(words.len());
+    let floats_long = c.floats.min(floats.len());
+    let scratch_u_long = c.scratch_u.min(scratch_u.len());
+    let scratch_f_long = c.scratch_f.min(scratch_f.len());
+    let words = &mut words[..words_long];
+    let floats = &mut floats[..floats_long];
+    let scratch_u = &mut scratch_u[..scratch_u_long];
+    let scratch_f = &mut scratch_f[..scratch_f_long];
     refusals::fill_scratch(words, floats);
     refusals::fill_scratch(scratch_u, scratch_f);
     let answer = relay_opening::open(
@@ -105,14 +109,14 @@ fn called(
 
 // A call on given lanes and jobs, on lists as long as it says that are unfilled but for two entries.
 fn lend(rt: &impl Print, number: u32, case: Case, lanes: &[f32], jobs: &[u32]) -> io::Result<()> {
-    let mut nodes = [4; 256];
-    let mut dists = [rows::EMPTY; 256];
+    let mut nodes: [u32; 256] = [4; 256];
+    let mut dists: [f32; 256] = [rows::EMPTY; 256];
     refusals::put_at(&mut nodes, case.first.at, case.first.node);
     refusals::put_at(&mut dists, case.first.at, case.first.dist);
     refusals::put_at(&mut nodes, case.second.at, case.second.node);
     refusals::put_at(&mut dists, case.second.at, case.second.dist);
-    let nodes = &nodes[..case.call.nodes.min(256)];
-    let dists = &dists[..case.call.dists.min(256)];
+    let nodes = &nodes[..case.call.nodes.min(nodes.len())];
+    let dists = &dists[..case.call.dists.min(dists.len())];
     called(rt, number, case, lanes, nodes, dists, jobs)
 }
 
@@ -122,8 +126,8 @@ fn one_case(rt: &impl Print, text: &[u8], c: Cursor, number: u32) -> io::Result<
     ensures { IfOk result (λ behind. behind ≡ behind_case text.now c) }
 {
     let case = given::read_case(text, c);
-    let mut lanes = [0.0; 1025];
-    let mut jobs = [0; 130];
+    let mut lanes: [f32; 1025] = [0.0; 1025];
+    let mut jobs: [u32; 130] = [0; 130];
     let l = refusals::read_lanes(text, case.cursor, &mut lanes);
     let j = refusals::read_run(text, l.cursor, &mut jobs);
     lend(rt, number, case.value, &lanes[..l.value], &jobs[..j.value])?;

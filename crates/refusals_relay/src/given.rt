@@ -76,7 +76,7 @@ fn state_of(xs: [u32; 16]) -> State
 pub fn read_case(text: &[u8], c: Cursor) -> Read<Case>
     ensures { result ≡ case_at text.now c }
 {
-    let mut xs = [0; 16];
+    let mut xs: [u32; 16] = [0; 16];
     let cursor = cases::read_words(text, c, &mut xs);
     let value = Case {
         lent: lent_of(xs),

@@ -21,18 +21,22 @@ const REPORTS: u32 = 0xCD00_0000;
 
 // Four jobs on the lanes and unfilled lists of square I: its own three, and one with u = v.
 fn opened(words: &mut [u32], floats: &mut [f32]) {
+    let nodes: [u32; 8] = [4; 8];
+    let dists: [f32; 8] = [rows::EMPTY; 8];
+    let mut scratch_u: [u32; 6144] = [0; 6144];
+    let mut scratch_f: [f32; 6144] = [0.0; 6144];
     let _ = relay_opening::open(
         1,
         4,
         &[0.0, 1.0, 3.0, 7.0],
         2,
-        &[4; 8],
-        &[rows::EMPTY; 8],
+        &nodes,
+        &dists,
         &[0, 1, 0, 3, 0, 2, 1, 1],
         words,
         floats,
-        &mut [0; 6144],
-        &mut [0.0; 6144],
+        &mut scratch_u,
+        &mut scratch_f,
     );
 }
 
@@ -92,7 +96,7 @@ fn told_move(
     answer: Result<(), Refusal>,
     left: Left,
 ) -> io::Result<()> {
-    let mut page = [0; 128];
+    let mut page: [u8; 128] = [0; 128];
     let case = pages::put_word(&mut page, 0, b"case ", number);
     let call = pages::put(&mut page, case, b", move");
     let behind = put_moved(&mut page, call, answer);
@@ -102,13 +106,13 @@ fn told_move(
 
 // A move on the parts of a state that are as long as the call says, beside a twin of it, and its line.
 fn moved(rt: &impl Print, number: u32, l: Lent, s: State) -> io::Result<()> {
-    let mut words = [0; 1293];
-    let mut floats = [0.0; 329];
+    let mut words: [u32; 1293] = [0; 1293];
+    let mut floats: [f32; 329] = [0.0; 329];
     make(s, &mut words, &mut floats);
     let twin_words = words;
     let twin_floats = floats;
-    let words_long = l.words.min(1293);
-    let floats_long = l.floats.min(329);
+    let words_long = l.words.min(words.len());
+    let floats_long = l.floats.min(floats.len());
     let words = &mut words[..words_long];
     let floats = &mut floats[..floats_long];
     let answer = relay_move::move_job(l.n, l.k, l.job, words, floats);
@@ -176,7 +180,7 @@ fn told_close(
     dists: &[f32],
     reports: &[u32],
 ) -> io::Result<()> {
-    let mut page = [0; 256];
+    let mut page: [u8; 256] = [0; 256];
     let case = pages::put_word(&mut page, 0, b"case ", number);
     let call = pages::put(&mut page, case, b", close");
     let end = put_closed(&mut page, call, answer, nodes, dists, reports);
@@ -185,17 +189,20 @@ fn told_close(
 
 // A close of the parts of a state that are as long as the call says, on junk in places of our own, and its line.
 fn closed(rt: &impl Print, number: u32, l: Lent, s: State) -> io::Result<()> {
-    let mut words = [0; 1293];
-    let mut floats = [0.0; 329];
+    let mut words: [u32; 1293] = [0; 1293];
+    let mut floats: [f32; 329] = [0.0; 329];
     make(s, &mut words, &mut floats);
-    let words = &words[..l.words.min(1293)];
-    let floats = &floats[..l.floats.min(329)];
-    let mut nodes = [0; 9];
-    let mut dists = [0.0; 9];
-    let mut reports = [0; 129];
-    let nodes = &mut nodes[..l.nodes.min(9)];
-    let dists = &mut dists[..l.dists.min(9)];
-    let reports = &mut reports[..l.reports.min(129)];
+    let words = &words[..l.words.min(words.len())];
+    let floats = &floats[..l.floats.min(floats.len())];
+    let mut nodes: [u32; 9] = [0; 9];
+    let mut dists: [f32; 9] = [0.0; 9];
+    let mut reports: [u32; 129] = [0; 129];
+    let nodes_long = l.nodes.min(nodes.len());
+    let dists_long = l.dists.min(dists.len());
+    let reports_long = l.reports.min(reports.len());
+    let nodes = &mut nodes[..nodes_long];
+    let dists = &mut dists[..dists_long];
+    let reports = &mut reports[..reports_long];
     refusals::fill_scratch(nodes, dists);
     refusals::fill(reports, REPORTS);
     let answer = relay_close::close(l.n, l.k, words, floats, nodes, dists, reports);

@@ -82,7 +82,7 @@ fn told(
     words: &[u32],
     floats: &[f32],
 ) -> io::Result<()> {
-    let mut page = [0; 2048];
+    let mut page: [u8; 2048] = [0; 2048];
     let case = pages::put_word(&mut page, 0, b"case ", number);
     let end = put_rest(&mut page, case, answer, nodes, bits, words, floats);
     rt.write_all(pages::text(&page, end))
@@ -98,14 +98,18 @@ fn called(
     roots: &[u32],
     query: &[f32],
 ) -> io::Result<()> {
-    let mut nodes = [0; 65];
-    let mut bits = [0; 65];
-    let mut words = [0; 1284];
-    let mut floats = [0.0; 1284];
-    let nodes = &mut nodes[..c.nodes.min(65)];
-    let bits = &mut bits[..c.bits.min(65)];
-    let words = &mut words[..c.words.min(1284)];
-    let floats = &mut floats[..c.floats.min(1284)];
+    let mut nodes: [u32; 65] = [0; 65];
+    let mut bits: [u32; 65] = [0; 65];
+    let mut words: [u32; 1284] = [0; 1284];
+    let mut floats: [f32; 1284] = [0.0; 1284];
+    let nodes_long = c.nodes.min(nodes.len());
+    let bits_long = c.bits.min(bits.len());
+    let words_long = c.words.min(words.len());
+    let floats_long = c.floats.min(floats.len());
+    let nodes = &mut nodes[..nodes_long];
+    let bits = &mut bits[..bits_long];
+    let words = &mut words[..words_long];
+    let floats = &mut floats[..floats_long];
     refusals::fill(nodes, NODES);
     refusals::fill(bits, BITS);
     refusals::fill_scratch(words, floats);
@@ -132,10 +136,10 @@ fn one_case(rt: &impl Print, text: &[u8], c: Cursor, number: u32) -> io::Result<
     ensures { IfOk result (λ behind. behind ≡ behind_case text.now c) }
 {
     let case = given::read_case(text, c);
-    let mut lanes = [0.0; 65];
-    let mut graph = [0; 65];
-    let mut roots = [0; 65];
-    let mut query = [0.0; 2];
+    let mut lanes: [f32; 65] = [0.0; 65];
+    let mut graph: [u32; 65] = [0; 65];
+    let mut roots: [u32; 65] = [0; 65];
+    let mut query: [f32; 2] = [0.0; 2];
     let l = refusals::read_lanes(text, case.cursor, &mut lanes);
     let g = refusals::read_run(text, l.cursor, &mut graph);
     let r = refusals::read_run(text, g.cursor, &mut roots);

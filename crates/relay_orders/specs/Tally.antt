@@ -11,6 +11,9 @@ use Rattle.relay_orders.specs.declared.tally.Tally.{Tally}
 unfoldable pub unfilled_lists : ℕ → Lists
 unfilled_lists n = record { nodes = replicate 24 n; dists = replicate 24 empty_distance }
 
+abbrev pub no_order : Tally
+no_order = record { sets = 0; orders = 0; differ = 0; refused = 0 }
+
 -- 1 where the lists differ, and 0 where they are the same
 unfoldable pub apart_by : Lists → Lists → ℕ
 apart_by a b = cond (alike nat_eq a.nodes b.nodes) (cond (alike same_bits a.dists b.dists) 0 1) 1

@@ -21,16 +21,18 @@ fn ended(r: Relay, given: Lists, kind: u32) -> Outcome {
         mut nodes,
         mut dists,
     } = given;
-    let mut order = [0; 512];
+    let mut order: [u32; 512] = [0; 512];
     let order = &mut order[..cases::area(4, r.jobs.len()).min(512)];
     order::fill(order, kind, r.jobs.len() / 2);
-    let long = cases::area(r.n, r.k).min(24);
+    let nodes_long = cases::area(r.n, r.k).min(nodes.len());
+    let dists_long = cases::area(r.n, r.k).min(dists.len());
+    let mut reports: [u32; 128] = [0; 128];
     let refused = run::whole(
         r,
         order,
-        &mut nodes[..long],
-        &mut dists[..long],
-        &mut [0; 128],
+        &mut nodes[..nodes_long],
+        &mut dists[..dists_long],
+        &mut reports,
     );
     Outcome {
         lists: Lists { nodes, dists },
@@ -55,20 +57,22 @@ fn put_lists(rt: &impl Print, nodes: &[u32], dists: &[f32]) -> io::Result<()> {
     Ok(())
 }
 
+// The reports of three jobs, two words each.
 fn put_reports(rt: &impl Print, reports: &[u32]) -> io::Result<()> {
-    for report in reports {
-        print!(rt; " {report}")?;
-    }
-    Ok(())
+    let mut page: [u8; 128] = [0; 128];
+    let named = pages::put(&mut page, 0, b", reports");
+    let listed = refusals::put_words(&mut page, named, reports, 6);
+    let end = pages::put(&mut page, listed, b"\n");
+    rt.write_all(pages::text(&page, end))
 }
 
 // Square I in an order of its 24 moves: the lists, two entries a node, and the reports of its three jobs.
 fn square(rt: &impl Print, name: &str, order: &[u32]) -> io::Result<()> {
     let lanes = sets::square_lanes();
     let jobs = sets::square_jobs();
-    let mut nodes = [4; 8];
-    let mut dists = [rows::EMPTY; 8];
-    let mut reports = [0; 128];
+    let mut nodes: [u32; 8] = [4; 8];
+    let mut dists: [f32; 8] = [rows::EMPTY; 8];
+    let mut reports: [u32; 128] = [0; 128];
     let r = Relay {
         n: 4,
         k: SQUARE_K,
@@ -78,9 +82,7 @@ fn square(rt: &impl Print, name: &str, order: &[u32]) -> io::Result<()> {
     let refused = run::whole(r, order, &mut nodes, &mut dists, &mut reports);
     print!(rt; "{name}")?;
     put_lists(rt, &nodes, &dists)?;
-    print!(rt; ", reports")?;
-    put_reports(rt, &reports[..6])?;
-    println!(rt)?;
+    put_reports(rt, &reports)?;
     if refused != 0 {
         print!(rt; "refused: {refused}")?;
     }
@@ -88,10 +90,10 @@ fn square(rt: &impl Print, name: &str, order: &[u32]) -> io::Result<()> {
 }
 
 fn squares(rt: &impl Print) -> io::Result<()> {
-    let mut one = [0; 24];
+    let mut one: [u32; 24] = [0; 24];
     order::fill(&mut one, 0, 3);
     square(rt, "I, one job at a time:", &one)?;
-    let mut round = [0; 24];
+    let mut round: [u32; 24] = [0; 24];
     order::fill(&mut round, 1, 3);
     square(rt, "I, a step of each in turn:", &round)?;
     let last = [
@@ -116,9 +118,9 @@ fn with_square(t: Tally) -> Tally {
 // A drawn game: twelve jobs on unfilled lists, and twelve on what these left.
 fn with_game(number: u32, t: Tally) -> Tally {
     let g = sets::drawn(number);
-    let mut lanes = [0.0; 6];
-    let mut jobs = [0; 24];
-    let mut further = [0; 24];
+    let mut lanes: [f32; 6] = [0.0; 6];
+    let mut jobs: [u32; 24] = [0; 24];
+    let mut further: [u32; 24] = [0; 24];
     order::fill_lanes(&mut lanes, g.lanes);
     order::fill_drawn(&mut jobs, g.first, g.n);
     order::fill_drawn(&mut further, g.further, g.n);
@@ -142,7 +144,7 @@ fn with_game(number: u32, t: Tally) -> Tally {
 }
 
 fn all_sets() -> Tally {
-    let mut t = with_square(Tally::default());
+    let mut t = with_square(tally::none());
     for number in 1..=4 {
         t = with_game(number, t);
     }

@@ -86,7 +86,7 @@ pub fn fill_lanes(lanes: &mut [f32], seed: u32)
 fn shuffle(order: &mut [u32], seed: u32)
     ensures { order.new ≡ shuffled seed order.old }
 {
-    let mut draws = [0; 512];
+    let mut draws: [u32; 512] = [0; 512];
     fill_drawn(&mut draws, seed, 65536);
     if order.len() <= 512 {
         shuffles::shuffle(order, &draws, 0);

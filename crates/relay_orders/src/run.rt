@@ -29,8 +29,8 @@ fn refused(answer: Result<(), Refusal>) -> u32
 fn opened(r: Relay, nodes: &[u32], dists: &[f32], words: &mut [u32], floats: &mut [f32]) -> u32
     ensures { ran words.new floats.new result ≡ opened_of r.entry.n r.entry.k r.entry.lanes.now nodes.now dists.now r.entry.jobs.now words.old floats.old }
 {
-    let mut scratch_u = [JUNK; 8192];
-    let mut scratch_f = [1.5; 8192];
+    let mut scratch_u: [u32; 8192] = [JUNK; 8192];
+    let mut scratch_f: [f32; 8192] = [1.5; 8192];
     let answer = relay_opening::open(
         1,
         r.n,
@@ -85,8 +85,8 @@ pub fn whole(
 ) -> u32
     ensures { relayed result nodes.new dists.new reports.new ≡ whole_of r.entry.n r.entry.k r.entry.lanes.now r.entry.jobs.now order.now nodes.old dists.old reports.old }
 {
-    let mut words = [JUNK; 2048];
-    let mut floats = [1.5; 1024];
+    let mut words: [u32; 2048] = [JUNK; 2048];
+    let mut floats: [f32; 1024] = [1.5; 1024];
     let words = &mut words[..relays::words_long(r.n, r.k).min(2048)];
     let floats = &mut floats[..relays::floats_long(r.n, r.k).min(1024)];
     in_state(r, order, words, floats, nodes, dists, reports)

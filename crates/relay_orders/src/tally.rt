@@ -1,6 +1,6 @@
 // How the orders of the sets came out: the lists that each ended in, counted where they differ.
 ghost use Rattle.std.specs.Prelude.{◌≡◌};
-ghost use Rattle.relay_orders.specs.Tally.{unfilled_lists, apart_by, with_set, with_order};
+ghost use Rattle.relay_orders.specs.Tally.{unfilled_lists, no_order, apart_by, with_set, with_order};
 
 /// Lists of a relay, in the front.
 #[derive(Clone, Copy)]
@@ -34,6 +34,13 @@ pub fn unfilled(n: u32) -> Lists
         nodes: [n; 24],
         dists: [rows::EMPTY; 24],
     }
+}
+
+/// No order yet.
+pub fn none() -> Tally
+    ensures { result ≡ no_order }
+{
+    Tally::default()
 }
 
 // 1 where the lists differ, and 0 where they are the same.

@@ -4,7 +4,7 @@
 use cases::Cursor;
 use kinds::Kind;
 use rules::Refusal;
-use shape::{MOST_JOBS, MOST_MOVES, Shape};
+use shape::Shape;
 use std::io;
 use tallies::{Difference, JUNK, Outcome};
 
@@ -147,7 +147,7 @@ fn moves(
 ) -> Outcome {
     let count = shape::read_moves(text, o.cursor);
     let p = tallies::at(o, count.cursor);
-    let mut order = [0; MOST_MOVES];
+    let mut order: [u32; 512] = [0; 512];
     ordered(text, p, s, jobs, &mut order[..count.value], words, floats)
 }
 
@@ -204,7 +204,7 @@ fn with_lists(
     dists: &[f32],
 ) -> Outcome {
     let count = shape::read_jobs(text, c);
-    let mut jobs = [0; 2 * MOST_JOBS];
+    let mut jobs: [u32; 128] = [0; 128];
     with_jobs(
         text,
         count.cursor,
